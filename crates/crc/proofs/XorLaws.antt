@@ -1,0 +1,38 @@
+-- Laws of `^` that the logic's library lacks: the half, the low digit, the order of three. Assumes nothing.
+use mathlib.Core.Path.{_≡_, refl, sym, ap, _∙_}
+use Prim.Native.Nat.{ℕ, _+_, _/_, _%_}
+use native.Mathlib.Nat.{add-comm}
+use native.Mathlib.Omega.{arith}
+use lib.Arith.{bin-ind}
+use lib.Bits.{bitXor, xor-shr, xor-add-and, xor-self, xor-zero-r}
+
+pub xor-half : (a b : ℕ) → bitXor a b / 2 ≡ bitXor (a / 2) (b / 2)
+xor-half a b = xor-shr a b 1
+
+pub xor-odd : (a b : ℕ) → bitXor a b % 2 ≡ (a + b) % 2
+xor-odd a b = omega (arith, xor-add-and a b)
+
+by-digits : {x y : ℕ} → x / 2 ≡ y / 2 → x % 2 ≡ y % 2 → x ≡ y
+by-digits p q = omega arith
+
+add-odd : (x y z : ℕ) → x % 2 ≡ y % 2 → (x + z) % 2 ≡ (y + z) % 2
+add-odd x y z e = omega arith
+
+assoc-odd : (a b c : ℕ) → bitXor (bitXor a b) c % 2 ≡ bitXor a (bitXor b c) % 2
+assoc-odd a b c =
+    xor-odd (bitXor a b) c ∙ add-odd (bitXor a b) (a + b) c (xor-odd a b) ∙ ap (λ (x : ℕ). x % 2) (omega arith)
+    ∙ sym (add-odd (bitXor b c) (b + c) a (xor-odd b c))
+    ∙ ap (λ (x : ℕ). x % 2) (add-comm (bitXor b c) a)
+    ∙ sym (xor-odd a (bitXor b c))
+
+pub xor-assoc : (a b c : ℕ) → bitXor (bitXor a b) c ≡ bitXor a (bitXor b c)
+xor-assoc a =
+    bin-ind (λ (n : ℕ). (b c : ℕ) → bitXor (bitXor n b) c ≡ bitXor n (bitXor b c)) (λ b c. refl)
+    (λ n ih b c. by-digits
+    (xor-half (bitXor n b) c ∙ ap (λ (x : ℕ). bitXor x (c / 2)) (xor-half n b) ∙ ih (b / 2) (c / 2)
+    ∙ ap (bitXor (n / 2)) (sym (xor-half b c)) ∙ sym (xor-half n (bitXor b c)))
+    (assoc-odd n b c)) a
+
+-- the same operand twice falls out
+pub xor-twice : (a b : ℕ) → bitXor (bitXor a b) b ≡ a
+xor-twice a b = xor-assoc a b b ∙ ap (bitXor a) (xor-self b) ∙ xor-zero-r a

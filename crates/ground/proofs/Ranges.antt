@@ -1,0 +1,151 @@
+-- The laws of first, count and all over a range, each in the steps of a loop: here, next, end. Assumes nothing.
+use mathlib.Core.Path.{_≡_, refl, sym, ap, ap₂, _∙_}
+use mathlib.Core.Logic.{_⊎_, inl, inr, ⊎-elim}
+use mathlib.Core.Bool.{Bool, true, false, _&&_, cond, and-false}
+use Prim.Native.Nat.{ℕ, zero, suc, _+_, _-_, _≤_, _<_}
+use native.Mathlib.Nat.{not-suc-le-zero, eq-or-lt-of-le, le-of-suc-le-suc, add-zero}
+use native.Mathlib.Numerals.{add-one}
+use native.Mathlib.Omega.{arith}
+use lib.Dec.{ltb}
+use borrow.Author.Tests.{ltb-true, ltb-false}
+use Rattle.ground.specs.Range.{firstFrom, countBelow, allBelow}
+
+pub lt-or-le : (a b : ℕ) → (a < b) ⊎ (b ≤ a)
+lt-or-le a b = by (ltb a b) refl
+  where
+    by : (t : Bool) → ltb a b ≡ t → (a < b) ⊎ (b ≤ a)
+    by true e = inl (ltb-true a b e)
+    by false e = inr (ltb-false a b e)
+
+-- the last index below n + 1, or one below n
+last-or-below : (i n : ℕ) → i < suc n → (i ≡ n) ⊎ (i < n)
+last-or-below i n h = eq-or-lt-of-le (le-of-suc-le-suc h)
+
+pub and-true-left : (a b : Bool) → (a && b) ≡ true → a ≡ true
+and-true-left true b e = refl
+and-true-left false b e = e
+
+pub and-true-right : (a b : Bool) → (a && b) ≡ true → b ≡ true
+and-true-right true b e = e
+and-true-right false true e = refl
+and-true-right false false e = e
+
+module _ (f : ℕ → Bool) where
+  -- ---- first
+
+  pub first-here : (i n : ℕ) → i < n → f i ≡ true → firstFrom f i (n - i) ≡ i
+  unfolding firstFrom
+  first-here i n h e = let s : n - i ≡ suc (n - (i + 1)) = omega arith in ap (λ (m : ℕ). firstFrom f i m) s ∙ rw e
+
+  pub first-next : (i n : ℕ) → i < n → f i ≡ false → firstFrom f i (n - i) ≡ firstFrom f (i + 1) (n - (i + 1))
+  unfolding firstFrom
+  first-next i n h e = let s : n - i ≡ suc (n - (i + 1)) = omega arith in ap (λ (m : ℕ). firstFrom f i m) s ∙ rw e
+
+  pub first-end : (i n : ℕ) → n ≤ i → firstFrom f i (n - i) ≡ i
+  unfolding firstFrom
+  first-end i n h = let s : n - i ≡ 0 = omega arith in ap (λ (m : ℕ). firstFrom f i m) s
+
+  pub first-le : (i n : ℕ) → firstFrom f i n ≤ i + n
+  unfolding firstFrom
+  first-le i zero = omega arith
+  first-le i (suc n) = by (f i) (first-le (i + 1) n)
+    where
+      by : (t : Bool) → firstFrom f (i + 1) n ≤ i + 1 + n → cond t i (firstFrom f (i + 1) n) ≤ i + suc n
+      by true g = omega arith
+      by false g = omega arith
+
+  -- what was found passes, and nothing before it does
+  pub first-passes : (i n : ℕ) → firstFrom f i n < i + n → f (firstFrom f i n) ≡ true
+  unfolding firstFrom
+  first-passes i zero h = absurd (omega arith)
+  first-passes i (suc n) h = by (f i) refl (first-passes (i + 1) n) h
+    where
+      by : (t : Bool)
+          → f i ≡ t
+          → (firstFrom f (i + 1) n < i + 1 + n → f (firstFrom f (i + 1) n) ≡ true)
+          → cond t i (firstFrom f (i + 1) n) < i + suc n
+          → f (cond t i (firstFrom f (i + 1) n)) ≡ true
+      by true e g h = e
+      by false e g h = g (omega arith)
+
+  pub first-before : (i n k : ℕ) → i ≤ k → k < firstFrom f i n → f k ≡ false
+  unfolding firstFrom
+  first-before i zero k h l = absurd (omega arith)
+  first-before i (suc n) k h l = by (f i) refl (first-before (i + 1) n k) l
+    where
+      by : (t : Bool)
+          → f i ≡ t
+          → (i + 1 ≤ k → k < firstFrom f (i + 1) n → f k ≡ false)
+          → k < cond t i (firstFrom f (i + 1) n)
+          → f k ≡ false
+      by true e g l = absurd (omega arith)
+      by false e g l =
+          ⊎-elim (λ (q : i ≡ k). ap f (sym q) ∙ e) (λ (q : i < k). g (omega arith) l) (eq-or-lt-of-le h)
+
+  -- ---- count
+
+  pub count-more : (k : ℕ) → f k ≡ true → countBelow f (k + 1) ≡ countBelow f k + 1
+  unfolding countBelow
+  count-more k e = rw add-one (ap (λ (b : Bool). countBelow f k + cond b 1 0) e)
+
+  pub count-same : (k : ℕ) → f k ≡ false → countBelow f (k + 1) ≡ countBelow f k
+  unfolding countBelow
+  count-same k e = rw add-one (ap (λ (b : Bool). countBelow f k + cond b 1 0) e ∙ add-zero (countBelow f k))
+
+  pub count-le : (n : ℕ) → countBelow f n ≤ n
+  unfolding countBelow
+  count-le zero = omega arith
+  count-le (suc n) = by (f n) (count-le n)
+    where
+      by : (t : Bool) → countBelow f n ≤ n → countBelow f n + cond t 1 0 ≤ suc n
+      by true g = omega arith
+      by false g = omega arith
+
+  pub count-none : (n : ℕ) → ((i : ℕ) → i < n → f i ≡ false) → countBelow f n ≡ 0
+  unfolding countBelow
+  count-none zero h = refl
+  count-none (suc n) h =
+      ap₂ _+_ (count-none n (λ i l. h i (omega arith))) (ap (λ (b : Bool). cond b 1 0) (h n (omega arith)))
+
+  -- ---- all
+
+  pub all-more : (k : ℕ) → allBelow f k ≡ true → f k ≡ true → allBelow f (k + 1) ≡ true
+  unfolding allBelow
+  all-more k a e = rw (add-one, a, e)
+
+  pub all-at : (n : ℕ) → allBelow f n ≡ true → (i : ℕ) → i < n → f i ≡ true
+  unfolding allBelow
+  all-at zero a i h = absurd (not-suc-le-zero h)
+  all-at (suc n) a i h =
+      ⊎-elim
+      (λ (e : i ≡ n). ap f e ∙ and-true-right (allBelow f n) (f n) a)
+      (λ (l : i < n). all-at n (and-true-left (allBelow f n) (f n) a) i l)
+      (last-or-below i n h)
+
+  pub all-intro : (n : ℕ) → ((i : ℕ) → i < n → f i ≡ true) → allBelow f n ≡ true
+  unfolding allBelow
+  all-intro zero h = refl
+  all-intro (suc n) h = rw (all-intro n (λ i l. h i (omega arith)), h n (omega arith))
+
+  pub all-fails : (n i : ℕ) → i < n → f i ≡ false → allBelow f n ≡ false
+  unfolding allBelow
+  all-fails zero i h e = absurd (not-suc-le-zero h)
+  all-fails (suc n) i h e =
+      ⊎-elim
+      (λ (q : i ≡ n). ap (λ (b : Bool). allBelow f n && b) (ap f (sym q) ∙ e) ∙ and-false (allBelow f n))
+      (λ (l : i < n). ap (λ (b : Bool). b && f n) (all-fails n i l e))
+      (last-or-below i n h)
+
+-- ---- two tests that agree below n
+
+module _ (f g : ℕ → Bool) where
+  pub count-agree : (n : ℕ) → ((i : ℕ) → i < n → f i ≡ g i) → countBelow f n ≡ countBelow g n
+  unfolding countBelow
+  count-agree zero h = refl
+  count-agree (suc n) h =
+      ap₂ _+_ (count-agree n (λ i l. h i (omega arith))) (ap (λ (b : Bool). cond b 1 0) (h n (omega arith)))
+
+  pub all-agree : (n : ℕ) → ((i : ℕ) → i < n → f i ≡ g i) → allBelow f n ≡ allBelow g n
+  unfolding allBelow
+  all-agree zero h = refl
+  all-agree (suc n) h = ap₂ _&&_ (all-agree n (λ i l. h i (omega arith))) (h n (omega arith))

@@ -1,0 +1,3 @@
+pub mod Refuse
+pub mod Range
+pub mod Does

@@ -1,0 +1,15 @@
+-- How a call is refused ("01, When the desk says no"): each call has a list of (condition, number) in rising order.
+-- For the rules of all calls. Assumes nothing.
+use Prim.Native.Nat.{ℕ, zero, suc}
+use mathlib.Core.Bool.{Bool, cond}
+use mathlib.Core.List.{List, [], _∷_}
+
+-- "Lowest number first, among those that the call can give": the number of the first condition that holds, else 0
+abbrev pub firstOf : List (Bool × ℕ) → ℕ
+firstOf [] = 0
+firstOf (l ∷ ls) = cond (l .0) (l .1) (firstOf ls)
+
+-- what comes of a call: done where its number is 0, and else what is refused under that number
+abbrev pub settle {ℓ} : {A : Type ℓ} → ℕ → A → (ℕ → A) → A
+settle zero done refused = done
+settle (suc n) done refused = refused (suc n)

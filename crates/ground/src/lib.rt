@@ -1,0 +1,1 @@
+// No code: the definitions in specs/ are what every rule of the store shares, and proofs/ has their laws.

@@ -1,0 +1,44 @@
+use native.Mathlib.Omega.{arith}
+use Rattle.little.proofs.Parts.{little-part-add}
+use borrow.Author.Needs.{needs}
+use Rattle.little.proofs.get4.Statement.{statement}
+use Rattle.little.proofs.get4.Tie as tie
+
+get2-requires : tie.Need-get2-requires
+get2-requires c κs = search needs
+
+cast-result : tie.Need-cast-result
+cast-result c = search needs
+
+add-get2 : tie.Need-add-get2
+add-get2 c = search needs
+
+get2-requires-2 : tie.Need-get2-requires-2
+get2-requires-2 c κs = search needs
+
+cast-result-2 : tie.Need-cast-result-2
+cast-result-2 c = search needs
+
+mul-result : tie.Need-mul-result
+mul-result c = search needs
+
+add-result : tie.Need-add-result
+add-result c = search needs
+
+returns : tie.Need-returns
+returns c =
+    let start = c .before .before .before in
+    omega (arith, little-part-add (start .args .at) 2 2 (start .args .s .now) (omega arith))
+
+pub get4-spec : {M : Type 1} → statement M
+get4-spec =
+    tie.close
+    (tie.spec
+    get2-requires
+    cast-result
+    add-get2
+    get2-requires-2
+    cast-result-2
+    mul-result
+    add-result
+    returns)

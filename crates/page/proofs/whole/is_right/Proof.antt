@@ -1,0 +1,99 @@
+-- `page::whole::is_right` meets its contract: it makes the tests of the header. Assumes nothing.
+use native.Mathlib.Omega.{arith}
+use Rattle.page.proofs.Wholes.{pageRight-read}
+use borrow.Author.Needs.{needs}
+use Rattle.page.proofs.whole.is_right.Statement.{statement}
+use Rattle.page.proofs.whole.is_right.Tie as tie
+
+checksum-requires : tie.Need-checksum-requires
+checksum-requires c κs = search needs
+
+items-requires : tie.Need-items-requires
+items-requires c κs = search needs
+
+get8-requires : tie.Need-get8-requires
+get8-requires c κs = search needs
+
+get4-requires : tie.Need-get4-requires
+get4-requires c κs = search needs
+
+get4-requires-2 : tie.Need-get4-requires-2
+get4-requires-2 c κs = search needs
+
+get4-requires-3 : tie.Need-get4-requires-3
+get4-requires-3 c κs = search needs
+
+get4-requires-4 : tie.Need-get4-requires-4
+get4-requires-4 c κs = search needs
+
+get4-requires-5 : tie.Need-get4-requires-5
+get4-requires-5 c κs = search needs
+
+get2-requires : tie.Need-get2-requires
+get2-requires c κs = search needs
+
+get2-requires-2 : tie.Need-get2-requires-2
+get2-requires-2 c κs = search needs
+
+get2-requires-3 : tie.Need-get2-requires-3
+get2-requires-3 c κs = search needs
+
+get2-requires-4 : tie.Need-get2-requires-4
+get2-requires-4 c κs = search needs
+
+get1-requires : tie.Need-get1-requires
+get1-requires c κs = search needs
+
+get1-requires-2 : tie.Need-get1-requires-2
+get1-requires-2 c κs = search needs
+
+get1-requires-3 : tie.Need-get1-requires-3
+get1-requires-3 c κs = omega (arith, c .before .before .before .before .before .before .before .before .before .before .before .before .before .before .before .before .before .before .pre)
+
+get1-requires-4 : tie.Need-get1-requires-4
+get1-requires-4 c κs = omega (arith, c .before .before .before .before .before .before .before .before .before .before .before .before .before .before .before .before .before .before .before .pre)
+
+returns : tie.Need-returns
+returns c =
+    let links = c .before .before .before .before .before .before .before .before .before .before .before in
+    let first = links .before .before .before .before .before in
+    let start = first .before .before .before .before in
+    pageRight-read (start .args .k) (start .args .id) (start .args .page .now)
+    (first .before .before .checksum .ensures)
+    (first .before .items .ensures)
+    (first .get8 .ensures)
+    (links .before .before .before .before .get4 .ensures)
+    (links .before .before .before .get42 .ensures)
+    (links .before .before .get43 .ensures)
+    (links .before .get44 .ensures)
+    (links .get45 .ensures)
+    (c .before .before .before .before .before .before .before .before .before .before .get2 .ensures)
+    (c .before .before .before .before .before .before .before .before .get22 .ensures)
+    (c .before .before .before .before .before .before .before .get23 .ensures)
+    (c .before .before .before .before .before .before .get24 .ensures)
+    (c .before .before .before .before .before .get1 .ensures)
+    (c .before .before .before .get12 .ensures)
+    (c .before .get13 .ensures)
+    (c .get14 .ensures)
+
+pub is-right-spec : {M : Type 1} → statement M
+is-right-spec =
+    tie.close
+    (tie.spec
+    checksum-requires
+    items-requires
+    get8-requires
+    get4-requires
+    get4-requires-2
+    get4-requires-3
+    get4-requires-4
+    get4-requires-5
+    get2-requires
+    get2-requires-2
+    get2-requires-3
+    get2-requires-4
+    get1-requires
+    get1-requires-2
+    get1-requires-3
+    get1-requires-4
+    returns)
