@@ -1,17 +1,18 @@
 -- Records, which are fields one behind the other: each field is read back, and stores field by field write the record.
 -- Assumes nothing.
-use mathlib.Core.Path.{_≡_, refl, sym, ap, _∙_}
+use mathlib.Core.Path.{_≡_, refl, sym, ap, ap₂, _∙_}
 use mathlib.Core.List.{List, [], _∷_, _++_, append-assoc}
-use Prim.Native.Nat.{ℕ, zero, suc, _+_, _^_, _<_}
-use mathlib.Core.Bool.{true}
-use native.Mathlib.Nat.{add-zero, le-of-suc-le-suc, not-suc-le-zero}
+use Prim.Native.Nat.{ℕ, zero, suc, _+_, _^_, _≤_, _<_}
+use mathlib.Core.Bool.{Bool, true, _&&_}
+use native.Mathlib.Nat.{add-zero, add-assoc, le-of-suc-le-suc, not-suc-le-zero}
 use native.Mathlib.Omega.{arith}
 use lib.ListN.{length, getD, length-append}
 use lib.Seq.{sets}
+use lib.Dec.{eqb}
 use borrow.Author.Tests.{eq-eqb}
 use Rattle.little.specs.Little.{little, digits, part, bytesOf, holds}
 use Rattle.little.proofs.Digits.{length-digits, little-digits}
-use Rattle.little.proofs.Parts.{part-front, part-skip, part-part, part-all, sets-append}
+use Rattle.little.proofs.Parts.{part-front, part-skip, part-part, part-all, sets-append, part-sets-below, part-sets-above, little-sets}
 
 -- where field i begins
 abbrev pub offset : ℕ → List (ℕ × ℕ) → ℕ
@@ -94,3 +95,32 @@ unfolding bytesOf
 bytesOf-append [] gs = refl
 bytesOf-append (f ∷ fs) gs =
     ap (λ (l : List ℕ). digits (f .0) (f .1) ++ l) (bytesOf-append fs gs) ∙ sym (append-assoc (digits (f .0) (f .1)) (bytesOf fs) (bytesOf gs))
+
+-- ---- a field stored anew
+
+holds-above : (s : List ℕ) (at : ℕ) (vs : List ℕ) (a : ℕ) (fs : List (ℕ × ℕ)) → at + length vs ≤ a → holds (sets s at vs) a fs ≡ holds s a fs
+unfolding holds
+holds-above s at vs a [] h = refl
+holds-above s at vs a (f ∷ fs) h =
+    ap₂ (λ (l : List ℕ) (b : Bool). eqb (little l) (f .1) && b)
+    (part-sets-above a (f .0) s at vs h)
+    (holds-above s at vs (a + f .0) fs (omega arith))
+
+-- the fields are held as they were before with what the field then said
+pub holds-sets : (s : List ℕ) (at : ℕ) (before : List (ℕ × ℕ)) (w v : ℕ) (after : List (ℕ × ℕ))
+    → v < 256 ^ w
+    → at + widths before + w ≤ length s
+    → holds (sets s (at + widths before) (digits w v)) at (before ++ (w, v) ∷ after)
+    ≡ holds s at (before ++ (w, little (part (at + widths before) w s)) ∷ after)
+unfolding holds
+holds-sets s at [] w v after b h =
+    rw add-zero
+    (ap₂ _&&_
+    (eq-eqb (little (part at w (sets s at (digits w v)))) v (little-sets s at w v b (omega arith))
+    ∙ sym (eq-eqb (little (part at w s)) (little (part at w s)) refl))
+    (holds-above s at (digits w v) (at + w) after (omega (arith, length-digits w v))))
+holds-sets s at (f ∷ fs) w v after b h =
+    rw (← add-assoc)
+    (ap₂ (λ (l : List ℕ) (b : Bool). eqb (little l) (f .1) && b)
+    (part-sets-below at (f .0) s (at + f .0 + widths fs) (digits w v) (omega arith))
+    (holds-sets s (at + f .0) fs w v after b (omega arith)))

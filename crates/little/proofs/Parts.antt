@@ -2,11 +2,11 @@
 use mathlib.Core.Path.{_≡_, refl, sym, ap, _∙_}
 use mathlib.Core.List.{List, [], _∷_, _++_, append-assoc}
 use Prim.Native.Nat.{ℕ, zero, suc, _+_, _-_, _*_, _/_, _%_, _^_, _≤_, _<_}
-use native.Mathlib.Nat.{add-zero, add-suc, suc-add, add-sub-of-le}
+use native.Mathlib.Nat.{add-zero, zero-add, add-suc, suc-add, add-sub-of-le}
 use native.Mathlib.Numerals.{add-one}
 use native.Mathlib.Omega.{arith}
 use lib.ListN.{length, take, drop, getD, set, replicate, length-drop, length-set, length-replicate, replicate-append-replicate}
-use lib.Seq.{sets, sets-eq, take-add, drop-drop, drop-cons, take-at, drop-at, length-take-le, take-take, drop-set-add, drop-set-lt, take-set-le, take-set-lt, set-set, set-comm, take-all, take-suc, drop-append-add}
+use lib.Seq.{sets, sets-eq, take-add, drop-drop, drop-cons, take-at, drop-at, length-take-le, take-take, drop-set-add, drop-set-lt, take-set-le, take-set-lt, set-set, set-comm, take-all, take-suc, take-append-le, drop-append-le, drop-append-add, getD-set-other}
 use Rattle.little.specs.Little.{little, digits, part}
 use Rattle.little.proofs.Digits.{length-digits, little-digits, little-append, digits-add, digits-low}
 
@@ -135,6 +135,10 @@ part-sets-inside at n s k (v ∷ vs) h =
     ∙ part-sets-inside at n (set s (at + k) v) (suc k) vs (omega arith)
     ∙ ap (λ (l : List ℕ). sets l (suc k) vs) (part-set-inside at n k v s (omega arith))
 
+pub part-sets-inside-front : (at n : ℕ) (s vs : List ℕ) → length vs ≤ n → part at n (sets s at vs) ≡ sets (part at n s) 0 vs
+part-sets-inside-front at n s vs h =
+    ap (λ (m : ℕ). part at n (sets s m vs)) (sym (add-zero at)) ∙ part-sets-inside at n s 0 vs (omega arith)
+
 -- what is stored into the inside of what was stored
 set-sets-below : (s : List ℕ) (i at v : ℕ) (x : List ℕ) → i < at → set (sets s at x) i v ≡ sets (set s i v) at x
 set-sets-below s i at v [] h = refl
@@ -158,3 +162,37 @@ sets-sets-inside s at x k (v ∷ vs) h =
     ap (λ (m : ℕ). sets (set (sets s at x) (at + k) v) m vs) (sym (add-suc at k))
     ∙ ap (λ (y : List ℕ). sets y (at + suc k) vs) (set-sets-inside s at x k v (omega arith))
     ∙ sets-sets-inside s at (set x k v) (suc k) vs (simp length-set (omega arith))
+
+-- a list stored over as many elements, and over the front of a longer one
+pub sets-front : (l vs : List ℕ) → length vs ≤ length l → sets l 0 vs ≡ vs ++ drop (length vs) l
+sets-front l vs h = sets-eq vs l 0 (omega arith) ∙ ap (λ (n : ℕ). vs ++ drop n l) (zero-add (length vs))
+
+-- ---- parts of two lists, bytes beside a store, and parts of zeros
+
+pub part-append : (a w : ℕ) (x y : List ℕ) → a + w ≤ length x → part a w (x ++ y) ≡ part a w x
+unfolding part
+part-append a w x y h = ap (take w) (drop-append-le a x y (omega arith)) ∙ take-append-le w (drop a x) y (simp length-drop (omega arith))
+
+pub part-behind : (x y : List ℕ) (n w : ℕ) → length x ≡ n → length y ≤ w → part n w (x ++ y) ≡ y
+unfolding part
+part-behind x y n w e h = ap (take w) (drop-at x y n e) ∙ take-all w y h
+
+pub getD-sets-below : (s : List ℕ) (at : ℕ) (vs : List ℕ) (i : ℕ) → i < at → getD (sets s at vs) i 0 ≡ getD s i 0
+getD-sets-below s at [] i h = refl
+getD-sets-below s at (v ∷ vs) i h = getD-sets-below (set s at v) (suc at) vs i (omega arith) ∙ getD-set-other s at i v 0 (λ e. omega arith)
+
+pub getD-sets-above : (s : List ℕ) (at : ℕ) (vs : List ℕ) (i : ℕ) → at + length vs ≤ i → getD (sets s at vs) i 0 ≡ getD s i 0
+getD-sets-above s at [] i h = refl
+getD-sets-above s at (v ∷ vs) i h = getD-sets-above (set s at v) (suc at) vs i (omega arith) ∙ getD-set-other s at i v 0 (λ e. omega arith)
+
+little-take-zeros : (w n : ℕ) → little (take w (replicate n 0)) ≡ 0
+unfolding little
+little-take-zeros zero n = refl
+little-take-zeros (suc w) zero = refl
+little-take-zeros (suc w) (suc n) = omega (arith, little-take-zeros w n)
+
+pub little-part-zeros : (a w n : ℕ) → little (part a w (replicate n 0)) ≡ 0
+unfolding part
+little-part-zeros zero w n = little-take-zeros w n
+little-part-zeros (suc a) w zero = little-take-zeros w 0
+little-part-zeros (suc a) w (suc n) = little-part-zeros a w n

@@ -1,8 +1,4 @@
-pub mod Lengths
+pub mod Headers
 pub mod Wholes
 pub mod Counts
-pub mod StatusLaws
-pub mod PointerLaws
-pub mod Places
-pub mod Slots
-pub mod Entries
+pub mod Rights

@@ -1,6 +1,6 @@
 -- Laws of whole pages: what the stores of format and seal make of an area. Assumes nothing.
 use mathlib.Core.Path.{_≡_, refl, sym, ap, _∙_}
-use mathlib.Core.List.{List, [], _∷_, _++_}
+use mathlib.Core.List.{List}
 use mathlib.Core.Bool.{_&&_, and-assoc, and-true}
 use Prim.Native.Nat.{ℕ, _+_, _*_, _-_, _≤_}
 use native.Mathlib.Omega.{arith}
@@ -14,8 +14,8 @@ use Rattle.little.proofs.Parts.{part-sets, sets-sets-inside}
 use Rattle.little.proofs.Fields.{length-bytesOf}
 use Rattle.crc.specs.Crc.{crcOf, crcMore}
 use Rattle.crc.proofs.CrcLaws.{crc-append}
-use Rattle.page.specs.declared.kind.Kind.{Kind}
-use Rattle.page.specs.Header.{header, pageAt, checksum, putField}
+use Rattle.kind.specs.declared.Kind.{Kind}
+use Rattle.page.specs.Header.{header, pageAt, putField}
 use Rattle.page.specs.Whole.{checksumOf, pageRight, sealedPage, blankPage, freshPage}
 use Rattle.page.specs.Count.{itemsIn}
 

@@ -5,9 +5,9 @@ use mathlib.Core.List.{List}
 use lib.Dec.{eqb}
 use Rattle.ground.specs.Range.{countBelow}
 use Rattle.little.specs.Little.{little, part}
-use Rattle.page.specs.Kind.{headerSize}
+use Rattle.kind.specs.Kind.{headerSize}
 use Rattle.page.specs.Header.{pageAt, txnId, itemCount, putField}
-use Rattle.page.specs.declared.kind.Kind.{Kind}
+use Rattle.kind.specs.declared.Kind.{Kind}
 
 -- record i of a page is in use: "its slots with create not 0, or its entries with writer not 0"; either is the first 8 bytes
 unfoldable pub inUse : ℕ → List ℕ → ℕ → Bool

@@ -3,8 +3,8 @@ use Prim.Native.Nat.{ℕ, _+_, _*_}
 use mathlib.Core.List.{List, [], _∷_}
 use lib.Seq.{sets}
 use Rattle.little.specs.Little.{little, digits, part}
-use Rattle.page.specs.Kind.{pageSize, version}
-use Rattle.page.specs.declared.kind.Kind.{Kind}
+use Rattle.kind.specs.Kind.{pageSize, version}
+use Rattle.kind.specs.declared.Kind.{Kind}
 
 -- page p of an area, counted from 0
 unfoldable pub pageAt : ℕ → List ℕ → List ℕ

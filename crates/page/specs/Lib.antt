@@ -1,10 +1,3 @@
-pub mod Kind
-pub mod Areas
-pub mod Place
-pub mod Pointer
-pub mod Status
-pub mod Slot
-pub mod Entry
 pub mod Header
 pub mod Count
 pub mod Whole

@@ -7,10 +7,10 @@ use lib.ListN.{replicate}
 use lib.Seq.{sets}
 use Rattle.little.specs.Little.{digits, part, bytesOf, holds}
 use Rattle.crc.specs.Crc.{crcOf}
-use Rattle.page.specs.Kind.{pageSize, headerSize}
+use Rattle.kind.specs.Kind.{pageSize, headerSize}
 use Rattle.page.specs.Header.{header, pageAt, txnId, checksum, fieldIn, putField}
 use Rattle.page.specs.Count.{itemsIn}
-use Rattle.page.specs.declared.kind.Kind.{Kind}
+use Rattle.kind.specs.declared.Kind.{Kind}
 
 -- "CRC32C over the page without the four checksum bytes, so over 8,188 bytes"
 unfoldable pub checksumOf : List ℕ → ℕ
@@ -20,6 +20,10 @@ checksumOf page = crcOf (part 0 20 page ++ part 24 8168 page)
 -- of kind k should have with the txn_id that it has
 unfoldable pub pageRight : Kind → ℕ → List ℕ → Bool
 pageRight k id page = holds page 0 (header k id (fieldIn txnId page) (checksumOf page) (itemsIn k page))
+
+-- the same but for the checksum: what a page that is about to be sealed should be
+unfoldable pub headerRight : Kind → ℕ → List ℕ → Bool
+headerRight k id page = holds page 0 (header k id (fieldIn txnId page) (fieldIn checksum page) (itemsIn k page))
 
 -- "Format and seal write it": page p with its checksum
 unfoldable pub sealedPage : ℕ → List ℕ → List ℕ

@@ -1,9 +1,9 @@
 // How many records of a page are in use, and what touching a page writes ("01, The page").
-use crate::kind::Kind;
+use kind::Kind;
 ghost use mathlib.Core.Path.{_≡_};
 ghost use Prim.Native.Nat.{_+_, _*_, _≤_};
 ghost use lib.ListN.{length};
-ghost use Rattle.page.specs.Kind.{pageSize};
+ghost use Rattle.kind.specs.Kind.{pageSize};
 ghost use Rattle.page.specs.Count.{Roomy, itemsIn, counted, touched};
 
 // The records of a page of kind k that are in use.

@@ -1,9 +1,4 @@
-// Pages ("01, The page"): their kinds and headers, where slots, entries and status bits lie and what they say, undo pointers,
-// and what touching a page writes. Bytes are met here and in `little`, and nowhere above.
+// Pages as a whole ("01, The page"): the header's fields, item counts, what touching a page writes, the checksum, a page that is
+// right and a page as format writes it.
 pub mod count;
-pub mod entry;
-pub mod kind;
-pub mod pointer;
-pub mod slot;
-pub mod status;
 pub mod whole;

@@ -1,10 +1,10 @@
 // Whole pages: the checksum, the check of a header, and a page as format and seal write it ("01, The page").
-use crate::kind::Kind;
+use kind::Kind;
 ghost use mathlib.Core.Path.{_≡_};
 ghost use Prim.Native.Nat.{_+_, _*_, _<_, _≤_, _^_};
 ghost use lib.ListN.{length};
 ghost use lib.Seq.{sets};
-ghost use Rattle.page.specs.Kind.{pageSize};
+ghost use Rattle.kind.specs.Kind.{pageSize};
 ghost use Rattle.page.specs.Count.{Roomy};
 ghost use Rattle.page.specs.Whole.{checksumOf, pageRight, sealedPage, blankPage, freshPage};
 

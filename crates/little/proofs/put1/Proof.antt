@@ -1,9 +1,8 @@
 -- `little::put1` meets its contract: a byte is its own one digit. Assumes nothing.
-use mathlib.Core.Path.{_≡_, sym, ap}
-use Prim.Native.Nat.{ℕ, _%_}
+use mathlib.Core.Path.{_≡_}
+use Prim.Native.Nat.{_%_}
 use borrow.Author.Needs.{needs}
 use native.Mathlib.Omega.{arith}
-use lib.ListN.{set}
 use Rattle.little.specs.Little.{digits}
 use Rattle.little.proofs.put1.Statement.{statement}
 use Rattle.little.proofs.put1.Tie as tie

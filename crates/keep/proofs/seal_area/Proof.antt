@@ -1,0 +1,60 @@
+-- `keep::seal_area` meets its contract. The invariant: the first p pages are sealed. Assumes nothing.
+use mathlib.Core.Path.{_≡_, refl}
+use Prim.Native.Nat.{_≤_, _-_, _/_}
+use native.Mathlib.Omega.{arith}
+use lib.ListN.{length}
+use borrow.Author.Needs.{needs}
+use Rattle.keep.specs.Whole.{sealedArea}
+use Rattle.keep.proofs.Pages.{sealedArea-more}
+use Rattle.keep.proofs.seal_area.Statement.{statement}
+use Rattle.keep.proofs.seal_area.Tie as tie
+
+abbrev Inv-loop : tie.InvT-loop
+Inv-loop s₀ n p₀ s p = (p ≤ n) × (length s ≡ length s₀) × (s ≡ sealedArea p s₀)
+
+abbrev μ-loop : tie.MeasureT-loop
+μ-loop s₀ n p₀ s p = n - p
+
+loop-holds : tie.Need-loop-holds Inv-loop μ-loop
+unfolding sealedArea
+loop-holds c = (omega arith, refl, refl)
+
+seal-page-requires : tie.Need-seal-page-requires Inv-loop μ-loop
+seal-page-requires c κs = search needs
+
+add-p : tie.Need-add-p Inv-loop μ-loop
+add-p c = search needs
+
+loop-less : tie.Need-loop-less Inv-loop μ-loop
+loop-less c = search needs
+
+loop-again : tie.Need-loop-again Inv-loop μ-loop
+loop-again c =
+    let called = c .before .before in
+    let head = called .before .before .before in
+    let start = head .before .before in
+    (omega arith, omega arith, sealedArea-more (head .loop .p) (start .args .s .now) (head .loop .s) (head .loop .inv .2) (called .seal-page .ensures))
+
+same-length : tie.Need-same-length Inv-loop μ-loop
+same-length c = search needs
+
+returns : tie.Need-returns Inv-loop μ-loop
+returns c =
+    let head = c .before in
+    let s = head .before .before .args .s .now in
+    let e : head .loop .p ≡ length s / 8192 = omega arith in
+    rw (← e) (head .loop .inv .2)
+
+pub seal-area-spec : {M : Type 1} → statement M
+seal-area-spec =
+    tie.close
+    (tie.spec
+    Inv-loop
+    μ-loop
+    loop-holds
+    seal-page-requires
+    add-p
+    loop-less
+    loop-again
+    same-length
+    returns)

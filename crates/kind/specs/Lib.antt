@@ -1,0 +1,3 @@
+pub mod Kind
+pub mod Areas
+pub mod Place

@@ -1,0 +1,69 @@
+-- Laws of header fields: what a field stored into page p leaves of the pages and statuses of an area, and the offsets of the
+-- header's fields. Assumes nothing.
+use mathlib.Core.Path.{_≡_, refl, ap}
+use mathlib.Core.Logic.{⊎-elim}
+use mathlib.Core.List.{List, [], _∷_}
+use Prim.Native.Nat.{ℕ, zero, suc, _+_, _*_, _/_, _≤_, _<_}
+use native.Mathlib.Omega.{arith}
+use lib.ListN.{length}
+use lib.Seq.{sets, length-sets}
+use Rattle.ground.proofs.Ranges.{lt-or-le}
+use Rattle.little.specs.Little.{little, digits, part, Bytes}
+use Rattle.little.proofs.Digits.{length-digits}
+use Rattle.little.proofs.Parts.{part-part, part-sets-below, part-sets-above, part-sets-inside, getD-sets-below, getD-sets-above}
+use Rattle.little.proofs.Fields.{offset}
+use Rattle.little.proofs.AllBytes.{bytes-sets, bytes-digits}
+use Rattle.kind.specs.declared.Kind.{Kind}
+use Rattle.kind.specs.Kind.{pageSize}
+use Rattle.status.specs.Status.{statusPlace, bitsIn, statusOf, statusAt}
+use Rattle.page.specs.Header.{header, pageAt, fieldIn, putField}
+
+-- ---- "Header, 48 bytes, offset then size": the fields of a header begin where the paper says
+
+-- where the fields from i on begin, n of them
+abbrev offsets : List (ℕ × ℕ) → ℕ → ℕ → List ℕ
+offsets fs i zero = []
+offsets fs i (suc n) = offset i fs ∷ offsets fs (suc i) n
+
+pub header-offsets : (k : Kind) (id txn sum items : ℕ)
+    → offsets (header k id txn sum items) 0 15
+    ≡ 0 ∷ 8 ∷ 16 ∷ 20 ∷ 24 ∷ 28 ∷ 32 ∷ 36 ∷ 38 ∷ 40 ∷ 42 ∷ 44 ∷ 45 ∷ 46 ∷ 47 ∷ []
+header-offsets k id txn sum items = refl
+
+-- ---- a field stored into page p of an area: the lengths, the bytes, the pages and the statuses
+
+pub length-putField : (f : ℕ × ℕ) (p v : ℕ) (s : List ℕ) → length (putField f p v s) ≡ length s
+unfolding putField
+length-putField f p v s = length-sets s (p * 8192 + f .0) (digits (f .1) v)
+
+pub bytes-putField : (f : ℕ × ℕ) (p v : ℕ) (s : List ℕ) → Bytes s → Bytes (putField f p v s)
+unfolding putField
+bytes-putField f p v s h = bytes-sets (digits (f .1) v) s (p * 8192 + f .0) (bytes-digits (f .1) v) h
+
+pub pageAt-putField-same : (f : ℕ × ℕ) (p v : ℕ) (s : List ℕ) → f .0 + f .1 ≤ 8192
+    → pageAt p (putField f p v s) ≡ sets (pageAt p s) (f .0) (digits (f .1) v)
+unfolding pageAt putField
+pageAt-putField-same f p v s h = part-sets-inside (p * 8192) 8192 s (f .0) (digits (f .1) v) (omega (arith, length-digits (f .1) v))
+
+pub pageAt-putField-other : (f : ℕ × ℕ) (p q v : ℕ) (s : List ℕ) → f .0 + f .1 ≤ 8192 → (q ≡ p → ⊥) → pageAt q (putField f p v s) ≡ pageAt q s
+unfolding pageAt putField
+pageAt-putField-other f p q v s h ne =
+    ⊎-elim
+    (λ (l : q < p). part-sets-below (q * 8192) 8192 s (p * 8192 + f .0) (digits (f .1) v) (omega arith))
+    (λ (l : p ≤ q). part-sets-above (q * 8192) 8192 s (p * 8192 + f .0) (digits (f .1) v) (omega (arith, length-digits (f .1) v, ne)))
+    (lt-or-le q p)
+
+-- a field of the header is no byte of a status
+pub statusAt-putField : (f : ℕ × ℕ) (n p v : ℕ) (s : List ℕ) → f .0 + f .1 ≤ 48 → statusAt n (putField f p v s) ≡ statusAt n s
+unfolding statusAt putField
+statusAt-putField f n p v s h =
+    ap (λ (b : ℕ). statusOf (bitsIn n b))
+    (⊎-elim
+    (λ (l : n / 32576 < p). getD-sets-below s (p * 8192 + f .0) (digits (f .1) v) (statusPlace pageSize n) (omega arith))
+    (λ (l : p ≤ n / 32576). getD-sets-above s (p * 8192 + f .0) (digits (f .1) v) (statusPlace pageSize n) (omega (arith, length-digits (f .1) v)))
+    (lt-or-le (n / 32576) p))
+
+-- what a field of page p says, by its place in the area
+pub fieldIn-pageAt : (f : ℕ × ℕ) (p : ℕ) (s : List ℕ) → f .0 + f .1 ≤ 8192 → fieldIn f (pageAt p s) ≡ little (part (p * 8192 + f .0) (f .1) s)
+unfolding pageAt
+fieldIn-pageAt f p s h = ap little (part-part (f .0) (f .1) (p * 8192) 8192 s h)

@@ -1,0 +1,154 @@
+-- Laws of right pages: a page is right once it is sealed where its header was right but for the checksum, and a fresh page is
+-- right. Assumes nothing.
+use mathlib.Core.Path.{_≡_, ap, ap₂, _∙_}
+use mathlib.Core.Bool.{true, not}
+use mathlib.Core.List.{List, _++_}
+use Prim.Native.Nat.{ℕ, _+_, _*_, _^_, _<_}
+use native.Mathlib.Nat.{one-le-pow}
+use native.Mathlib.Omega.{arith}
+use lib.ListN.{length, take, drop, replicate}
+use lib.Seq.{sets, length-sets}
+use lib.Dec.{eqb}
+use Rattle.ground.proofs.Ranges.{count-none, count-agree}
+use Rattle.little.specs.Little.{little, digits, part, bytesOf, Bytes}
+use Rattle.little.proofs.Digits.{length-digits}
+use Rattle.little.proofs.Parts.{part-front, part-skip, part-sets-below, part-sets-above, little-part-zeros}
+use Rattle.little.proofs.Fields.{Fit, length-bytesOf, little-field, holds-bytesOf, holds-sets}
+use Rattle.little.proofs.AllBytes.{bytes-part, bytes-append, bytes-zeros, bytes-bytesOf, bytes-at}
+use Rattle.crc.specs.Crc.{crcOf}
+use Rattle.crc.proofs.CrcLaws.{crc-below}
+use Rattle.kind.specs.declared.Kind.{Kind}
+use Rattle.kind.specs.Kind.{dataKind, undoKind, statusKind}
+use Rattle.page.specs.Header.{header, pageAt, txnId, checksum, fieldIn}
+use Rattle.page.specs.Count.{inUse, itemsIn}
+use Rattle.status.specs.Status.{statusAt}
+use Rattle.page.specs.Whole.{checksumOf, pageRight, headerRight, sealedPage, blankPage, freshPage}
+use Rattle.page.proofs.Headers.{length-putField, bytes-putField, pageAt-putField-same, pageAt-putField-other, statusAt-putField}
+use Rattle.page.proofs.Wholes.{length-blankPage}
+
+-- ---- the checksum of a page: it fits its field, and the field does not count
+
+pub checksumOf-fits : (page : List ℕ) → Bytes page → checksumOf page < 256 ^ 4
+unfolding checksumOf
+checksumOf-fits page h =
+    crc-below (part 0 20 page ++ part 24 8168 page)
+    (bytes-at (part 0 20 page ++ part 24 8168 page)
+    (bytes-append (part 0 20 page) (part 24 8168 page) (bytes-part 0 20 page h) (bytes-part 24 8168 page h)))
+
+pub checksumOf-store : (page : List ℕ) (v : ℕ) → checksumOf (sets page 20 (digits 4 v)) ≡ checksumOf page
+unfolding checksumOf
+checksumOf-store page v =
+    ap₂ (λ (x y : List ℕ). crcOf (x ++ y))
+    (part-sets-below 0 20 page 20 (digits 4 v) (omega arith))
+    (part-sets-above 24 8168 page 20 (digits 4 v) (omega (arith, length-digits 4 v)))
+
+-- ---- sealing page p of an area
+
+pub length-sealedPage : (p : ℕ) (s : List ℕ) → length (sealedPage p s) ≡ length s
+unfolding sealedPage
+length-sealedPage p s = length-putField checksum p (checksumOf (pageAt p s)) s
+
+pub bytes-sealedPage : (p : ℕ) (s : List ℕ) → Bytes s → Bytes (sealedPage p s)
+unfolding sealedPage
+bytes-sealedPage p s h = bytes-putField checksum p (checksumOf (pageAt p s)) s h
+
+pub pageAt-sealedPage-same : (p : ℕ) (s : List ℕ) → pageAt p (sealedPage p s) ≡ sets (pageAt p s) 20 (digits 4 (checksumOf (pageAt p s)))
+unfolding sealedPage
+pageAt-sealedPage-same p s = pageAt-putField-same checksum p (checksumOf (pageAt p s)) s (omega arith)
+
+pub pageAt-sealedPage-other : (p q : ℕ) (s : List ℕ) → (q ≡ p → ⊥) → pageAt q (sealedPage p s) ≡ pageAt q s
+unfolding sealedPage
+pageAt-sealedPage-other p q s ne = pageAt-putField-other checksum p q (checksumOf (pageAt p s)) s (omega arith) ne
+
+pub statusAt-sealedPage : (n p : ℕ) (s : List ℕ) → statusAt n (sealedPage p s) ≡ statusAt n s
+unfolding sealedPage
+statusAt-sealedPage n p s = statusAt-putField checksum n p (checksumOf (pageAt p s)) s (omega arith)
+
+-- ---- a page is right once it is sealed, where its header was right but for the checksum
+
+pub itemsIn-store : (k : Kind) (page : List ℕ) (v : ℕ) → itemsIn k (sets page 20 (digits 4 v)) ≡ itemsIn k page
+unfolding itemsIn inUse
+itemsIn-store k page v =
+    count-agree (inUse (k .size) (sets page 20 (digits 4 v))) (inUse (k .size) page) (k .count)
+    (λ i h.
+    ap (λ (l : List ℕ). not (eqb (little l) 0)) (part-sets-above (48 + i * k .size) 8 page 20 (digits 4 v) (omega (arith, length-digits 4 v))))
+
+pub pageRight-sealed : (k : Kind) (id : ℕ) (page : List ℕ) → length page ≡ 8192 → Bytes page
+    → pageRight k id (sets page 20 (digits 4 (checksumOf page))) ≡ headerRight k id page
+unfolding pageRight headerRight
+pageRight-sealed k id page l h =
+    rw (part-sets-below 8 8 page 20 (digits 4 (checksumOf page)) (omega arith), checksumOf-store page (checksumOf page), itemsIn-store k page (checksumOf page))
+    (holds-sets page 0 (take 3 fields) 4 (checksumOf page) (drop 4 fields) (checksumOf-fits page h) (omega arith))
+  where
+    fields : List (ℕ × ℕ)
+    fields = header k id (fieldIn txnId page) 0 (itemsIn k page)
+
+-- ---- a fresh page is right
+
+-- a kind whose numbers fit their fields
+pub record Fitting (k : Kind) : Type 0 where
+  pub free-fits : k .free < 65536
+  pub code-fits : k .code < 256
+  pub engine-fits : k .engine < 256
+
+pub fitting-data : Fitting dataKind
+fitting-data = record { free-fits = omega arith; code-fits = omega arith; engine-fits = omega arith }
+
+pub fitting-undo : Fitting undoKind
+fitting-undo = record { free-fits = omega arith; code-fits = omega arith; engine-fits = omega arith }
+
+pub fitting-status : Fitting statusKind
+fitting-status = record { free-fits = omega arith; code-fits = omega arith; engine-fits = omega arith }
+
+-- a header with n zeros behind it
+module _ (k : Kind) (id n : ℕ) where
+  items-zeros : itemsIn k (bytesOf (header k id 0 0 0) ++ replicate n 0) ≡ 0
+  unfolding itemsIn inUse
+  items-zeros =
+      count-none (inUse (k .size) (bytesOf (header k id 0 0 0) ++ replicate n 0)) (k .count)
+      (λ i h.
+      ap (λ (v : ℕ). not (eqb v 0))
+      (ap little (part-skip (bytesOf (header k id 0 0 0)) (replicate n 0) 48 (i * k .size) 8 (length-bytesOf (header k id 0 0 0)))
+      ∙ little-part-zeros (i * k .size) 8 n))
+
+  txn-zeros : fieldIn txnId (bytesOf (header k id 0 0 0) ++ replicate n 0) ≡ 0
+  txn-zeros = little-field 1 (header k id 0 0 0) (replicate n 0) (omega arith) (omega arith)
+
+  checksum-zeros : fieldIn checksum (bytesOf (header k id 0 0 0) ++ replicate n 0) ≡ 0
+  checksum-zeros = little-field 3 (header k id 0 0 0) (replicate n 0) (omega arith) (omega arith)
+
+  right-zeros : Fitting k → id < 256 ^ 4 → headerRight k id (bytesOf (header k id 0 0 0) ++ replicate n 0) ≡ true
+  unfolding headerRight
+  right-zeros fit h =
+      rw (txn-zeros, checksum-zeros, items-zeros)
+      (holds-bytesOf (bytesOf (header k id 0 0 0) ++ replicate n 0) 0 (header k id 0 0 0) fits
+      (part-front (bytesOf (header k id 0 0 0)) (replicate n 0) 48 (length-bytesOf (header k id 0 0 0))))
+    where
+      z : (w : ℕ) → 0 < 256 ^ w
+      z w = one-le-pow w 256 (omega arith)
+
+      fits : Fit (header k id 0 0 0)
+      fits =
+          (z 8, (z 8, (h, (z 4, (z 4, (z 4, (z 4, (fit .free-fits, (z 2, (z 2, (z 2, (fit .code-fits, (fit .engine-fits, (z 1, (omega arith, tt)))))))))))))))
+
+-- before its checksum is written, and after
+module _ (k : Kind) (id : ℕ) where
+  pub bytes-blankPage : Bytes (blankPage k id)
+  unfolding blankPage
+  bytes-blankPage = bytes-append (bytesOf (header k id 0 0 0)) (replicate 8144 0) (bytes-bytesOf (header k id 0 0 0)) (bytes-zeros 8144)
+
+  pub headerRight-blankPage : Fitting k → id < 256 ^ 4 → headerRight k id (blankPage k id) ≡ true
+  unfolding blankPage
+  headerRight-blankPage fit h = right-zeros k id 8144 fit h
+
+  pub length-freshPage : length (freshPage k id) ≡ 8192
+  unfolding freshPage
+  length-freshPage = length-sets (blankPage k id) 20 (digits 4 (checksumOf (blankPage k id))) ∙ length-blankPage k id
+
+  pub txnId-freshPage : fieldIn txnId (freshPage k id) ≡ 0
+  unfolding freshPage blankPage
+  txnId-freshPage = ap little (part-sets-below 8 8 (blankPage k id) 20 (digits 4 (checksumOf (blankPage k id))) (omega arith)) ∙ txn-zeros k id 8144
+
+  pub pageRight-freshPage : Fitting k → id < 256 ^ 4 → pageRight k id (freshPage k id) ≡ true
+  unfolding freshPage
+  pageRight-freshPage fit h = pageRight-sealed k id (blankPage k id) (length-blankPage k id) bytes-blankPage ∙ headerRight-blankPage fit h
