@@ -2,10 +2,12 @@
 // check can be lent them without a copy. Unused places are zero; there is no count.
 ghost use mathlib.Core.Path.{_≡_};
 ghost use Prim.Native.Nat.{_+_, _<_, _≤_};
-ghost use lib.ListN.{length};
+ghost use lib.ListN.{length, getD, take, drop};
+ghost use lib.Seq.{sets};
 ghost use Rattle.ground.specs.Range.{allBelow};
 ghost use Rattle.desk.specs.Desk.{sessions, freshDesk};
 ghost use Rattle.desk.specs.Sound.{ascending, sessionSound, soundColumns, openCount};
+ghost use Rattle.desk.specs.Turns.{placeIn, viewAt, begun, moved, closed, without, smallest, markOf};
 
 pub struct Desk {
     // The number that the next session gets.
@@ -15,6 +17,13 @@ pub struct Desk {
     pub statements: [u32; 16],
     // The numbers open when each began, ascending: 15 places a session.
     pub lists: [u64; 240],
+}
+
+// What a session sees by: its number, its statement, and the numbers open when it began.
+pub struct View {
+    pub number: u64,
+    pub statement: u32,
+    pub list: [u64; 15],
 }
 
 impl Desk {
@@ -40,6 +49,88 @@ impl Desk {
             numbers: [0; 16],
             statements: [0; 16],
             lists: [0; 240],
+        }
+    }
+
+    // "Begin hands out the next number, with statement 0", and with the numbers open then. The new session stands behind the
+    // open ones. The caller has refused where 16 are open or no number is left.
+    pub fn begin(self) -> Desk
+        requires { ⌜ (openCount (self .numbers) < 16) × (self .next ≤ 32576) ⌝ }
+        ensures { λ r. ⌜ r ≡ begun self ⌝ }
+    {
+        let open = self.numbers;
+        let known = self.lists;
+        let next = self.next;
+        let k = open_count(&open);
+        let mut numbers = self.numbers;
+        numbers[k] = next;
+        let mut statements = self.statements;
+        statements[k] = Desk::FIRST_STATEMENT;
+        let lists = with_list(known, k * Desk::MEMBERS, open);
+        Desk {
+            next: next + 1,
+            numbers,
+            statements,
+            lists,
+        }
+    }
+
+    // "Next statement adds 1"
+    pub fn next_statement(mut self, k: usize) -> Desk
+        requires { ⌜ (k < 16) × (getD (self .statements) k 0 < 65535) ⌝ }
+        ensures { λ r. ⌜ r ≡ moved k self ⌝ }
+    {
+        let statement = self.statements[k];
+        self.statements[k] = statement + 1;
+        self
+    }
+
+    // "Commit .. closes": what it sets stands on the status page.
+    pub fn commit(self, k: usize) -> Desk
+        requires { ⌜ k < 16 ⌝ }
+        ensures { λ r. ⌜ r ≡ closed k self ⌝ }
+    {
+        self.close(k)
+    }
+
+    // "withdraw .. closes" too.
+    pub fn withdraw(self, k: usize) -> Desk
+        requires { ⌜ k < 16 ⌝ }
+        ensures { λ r. ⌜ r ≡ closed k self ⌝ }
+    {
+        self.close(k)
+    }
+
+    // The desk without the session at place k: later ones move up, and the lists of others keep its number.
+    fn close(self, k: usize) -> Desk
+        requires { ⌜ k < 16 ⌝ }
+        ensures { λ r. ⌜ r ≡ closed k self ⌝ }
+    {
+        let open = self.numbers;
+        let reached = self.statements;
+        let known = self.lists;
+        let numbers = without_number(open, k);
+        let statements = without_statement(reached, k);
+        let left = without_list(known, k * Desk::MEMBERS);
+        Desk {
+            next: self.next,
+            numbers,
+            statements,
+            lists: left,
+        }
+    }
+
+    // What the session at place k sees by.
+    pub fn view(self, k: usize) -> View
+        requires { ⌜ k < 16 ⌝ }
+        ensures { λ r. ⌜ r ≡ viewAt k self ⌝ }
+    {
+        let lists = self.lists;
+        let list = list_at(&lists, k * Desk::MEMBERS);
+        View {
+            number: self.numbers[k],
+            statement: self.statements[k],
+            list,
         }
     }
 }
@@ -148,4 +239,118 @@ pub fn open_count(numbers: &[u64; 16]) -> usize
         k += 1;
     }
     n
+}
+
+// The place at which number x stands; where it stands nowhere, 16. Of 0 it is the first unused place: session 0 is never open.
+pub fn find(numbers: &[u64; 16], x: u64) -> usize
+    ensures { λ r. ⌜ (r ≡ placeIn x (now (numbers .entry))) × (r ≤ 16) ⌝ }
+{
+    let mut k = 0;
+    while k < Desk::SESSIONS {
+        if numbers[k] == x {
+            return k;
+        }
+        k += 1;
+    }
+    k
+}
+
+// The lists with the first 15 numbers at `at`: "the numbers open when it began", and unused places behind them.
+fn with_list(mut lists: [u64; 240], at: usize, numbers: [u64; 16]) -> [u64; 240]
+    requires { ⌜ at + 15 ≤ 240 ⌝ }
+    ensures { λ r. ⌜ r ≡ sets lists at (take 15 numbers) ⌝ }
+{
+    let mut i = 0;
+    while i < Desk::MEMBERS {
+        lists[at + i] = numbers[i];
+        i += 1;
+    }
+    lists
+}
+
+// The list that starts at `at`.
+fn list_at(lists: &[u64], at: usize) -> [u64; 15]
+    requires { ⌜ at + 15 ≤ length (now lists) ⌝ }
+    ensures { λ r. ⌜ r ≡ take 15 (drop at (now (lists .entry))) ⌝ }
+{
+    let mut list = [0; 15];
+    let mut i = 0;
+    while i < Desk::MEMBERS {
+        list[i] = lists[at + i];
+        i += 1;
+    }
+    list
+}
+
+// A column without a session's places: later ones move up, and zeros stand behind ("unused places are zero").
+fn without_number(mut numbers: [u64; 16], k: usize) -> [u64; 16]
+    requires { ⌜ k < 16 ⌝ }
+    ensures { λ r. ⌜ r ≡ without k 1 numbers ⌝ }
+{
+    let mut i = k;
+    while i < Desk::SESSIONS {
+        let mut later = 0;
+        if i + 1 < Desk::SESSIONS {
+            later = numbers[i + 1];
+        }
+        numbers[i] = later;
+        i += 1;
+    }
+    numbers
+}
+
+fn without_statement(mut statements: [u32; 16], k: usize) -> [u32; 16]
+    requires { ⌜ k < 16 ⌝ }
+    ensures { λ r. ⌜ r ≡ without k 1 statements ⌝ }
+{
+    let mut i = k;
+    while i < Desk::SESSIONS {
+        let mut later = 0;
+        if i + 1 < Desk::SESSIONS {
+            later = statements[i + 1];
+        }
+        statements[i] = later;
+        i += 1;
+    }
+    statements
+}
+
+fn without_list(mut lists: [u64; 240], at: usize) -> [u64; 240]
+    requires { ⌜ at + 15 ≤ 240 ⌝ }
+    ensures { λ r. ⌜ r ≡ without at 15 lists ⌝ }
+{
+    let mut i = at;
+    while i < 240 {
+        let mut later = 0;
+        if i + Desk::MEMBERS < 240 {
+            later = lists[i + Desk::MEMBERS];
+        }
+        lists[i] = later;
+        i += 1;
+    }
+    lists
+}
+
+// The smallest of m and the used places.
+fn least(m: u64, places: &[u64]) -> u64
+    ensures { λ r. ⌜ r ≡ smallest m (now (places .entry)) ⌝ }
+{
+    let mut low = m;
+    let mut i = 0;
+    while i < places.len() {
+        let x = places[i];
+        if (x != 0) & (x < low) {
+            low = x;
+        }
+        i += 1;
+    }
+    low
+}
+
+// "The mark is the smallest among all open sessions' numbers and list members; with none open, the next number."
+pub fn mark<'a>(next: u64, numbers: &'a [u64; 16], lists: &'a [u64; 240]) -> u64
+    ensures { λ r. ⌜ r ≡ markOf next (now (numbers .entry)) (now (lists .entry)) ⌝ }
+{
+    let oldest = least(next, numbers);
+    least(oldest, lists)
 }

@@ -28,7 +28,7 @@ use Rattle.desk.specs.Desk.{freshDesk, noDesk}
 use Rattle.desk.specs.Sound.{sound, openCount}
 use Rattle.kind.specs.declared.Kind.{Kind}
 use Rattle.kind.specs.Kind.{pages, dataKind, undoKind, statusKind, lengthsOk}
-use Rattle.kind.specs.Areas.{Areas}
+use Rattle.kind.specs.Areas.{Areas, badLength}
 use Rattle.page.specs.Header.{pageAt, txnId, fieldIn, putField}
 use Rattle.status.specs.Status.{statusAt}
 use Rattle.page.specs.Whole.{checksumOf, pageRight, headerRight, sealedPage, freshPage}
@@ -37,7 +37,7 @@ use Rattle.page.proofs.Headers.{fieldIn-pageAt}
 use Rattle.page.proofs.Rights.{Fitting, fitting-data, fitting-undo, fitting-status, length-sealedPage, statusAt-sealedPage, pageAt-sealedPage-same, pageAt-sealedPage-other, pageRight-sealed, length-freshPage, txnId-freshPage, pageRight-freshPage}
 use Rattle.keep.specs.declared.Opened.{Opened}
 use Rattle.keep.specs.Whole.{freshArea, sealedArea, areaRight, highest, ended, allEnded, storeRight}
-use Rattle.keep.specs.Keep.{said, badLength, formatRefusal, formatted, formatRule, sealRefusal, sealed, sealRule, openRefusal, openRule}
+use Rattle.keep.specs.Keep.{said, formatRefusal, formatted, formatRule, sealRefusal, sealed, sealRule, openRefusal, openRule}
 
 -- ---- one answer: no second result meets a contract
 

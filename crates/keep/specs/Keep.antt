@@ -1,27 +1,22 @@
 -- The rules of format, seal and open: what each answers, and what it leaves in the areas ("01, The page", "01, When the desk says
 -- no"). Assumes nothing.
 use Prim.Native.Nat.{ℕ, _+_}
-use mathlib.Core.Bool.{Bool, not}
+use mathlib.Core.Bool.{not}
 use mathlib.Core.List.{[], _∷_}
-use lib.ListN.{length}
 use lib.Dec.{ltb}
 use Rattle.ground.specs.Refuse.{firstOf, settle}
 use Rattle.answer.specs.Code.{codeOf}
 use Rattle.desk.specs.declared.Desk.{Desk}
 use Rattle.desk.specs.Desk.{firstNumber, freshDesk, noDesk}
 use Rattle.desk.specs.Sound.{sound, openCount}
-use Rattle.kind.specs.Kind.{pages, lengthsOk, dataKind, undoKind, statusKind}
-use Rattle.kind.specs.Areas.{Areas, areas}
+use Rattle.kind.specs.Kind.{pages, dataKind, undoKind, statusKind}
+use Rattle.kind.specs.Areas.{Areas, areas, badLength}
 use Rattle.keep.specs.Whole.{freshArea, sealedArea, highest, storeRight}
 use Rattle.keep.specs.declared.Opened.{Opened}
 
 -- the paper's number and value of what format and open answer
 abbrev pub said : Opened → ℕ × Desk
 said r = (codeOf (r .answer), r .desk)
-
--- 1: "an area's length isn't allowed"
-abbrev pub badLength : Areas → Bool
-badLength a = not (lengthsOk (length (a .«data»)) (length (a .undo)) (length (a .status)))
 
 -- ---- format
 

@@ -45,3 +45,7 @@ all-lent d u s e =
 
 pub areas-eq : {d d′ u u′ s s′ : List ℕ} → d ≡ d′ → u ≡ u′ → s ≡ s′ → areas d u s ≡ areas d′ u′ s′
 areas-eq p q r = rw (p, q, r)
+
+-- the status area is one page
+pub status-length : (d u s : ℕ) → lengthsOk d u s ≡ true → s ≡ 8192
+status-length d u s e = let one = all-lent d u s e .inStatus in omega (arith, one .whole, one .some, one .few)

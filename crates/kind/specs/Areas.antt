@@ -1,6 +1,10 @@
--- The three lent areas together ("01, What the station lends"): what a call that writes them all leaves. Assumes nothing.
+-- The three lent areas together ("01, What the station lends"): what a call that writes them all leaves, and whether their lengths are
+-- allowed. Assumes nothing.
 use Prim.Native.Nat.{ℕ}
+use mathlib.Core.Bool.{Bool, not}
 use mathlib.Core.List.{List}
+use lib.ListN.{length}
+use Rattle.kind.specs.Kind.{lengthsOk}
 
 pub record Areas : Type 0 where
   pub «data» : List ℕ
@@ -9,3 +13,7 @@ pub record Areas : Type 0 where
 
 abbrev pub areas : List ℕ → List ℕ → List ℕ → Areas
 areas d u s = record { «data» = d; undo = u; status = s }
+
+-- 1: "an area's length isn't allowed"
+abbrev pub badLength : Areas → Bool
+badLength a = not (lengthsOk (length (a .«data»)) (length (a .undo)) (length (a .status)))

@@ -1,0 +1,79 @@
+-- Where the body of a version lies, as the code finds it: `at` is the place of its record ("01, Sessions and sight"). Assumes nothing.
+use mathlib.Core.Path.{_≡_, sym, ap, _∙_}
+use mathlib.Core.List.{List, []}
+use Prim.Native.Nat.{ℕ, _+_, _-_, _≤_, _<_}
+use native.Mathlib.Omega.{arith}
+use lib.ListN.{length, take, drop}
+use borrow.Author.Tests.{lt-ltb, le-ltb}
+use Rattle.little.specs.Little.{part}
+use Rattle.little.proofs.Parts.{length-part, part-part}
+use Rattle.kind.specs.Kind.{rows, entries}
+use Rattle.kind.specs.Place.{recordAt}
+use Rattle.records.proofs.Slots.{slot-inside}
+use Rattle.records.proofs.Entries.{entry-inside}
+use Rattle.records.specs.Slot.{slotPlace, bodyAt}
+use Rattle.records.specs.Entry.{entryPlace, copyBodyAt}
+use Rattle.chain.specs.declared.Place.{Place}
+use Rattle.chain.specs.declared.Place.the-variants.{Nowhere, Data, Undo}
+use Rattle.chain.specs.Walk.{bodyOf, bodyFrom}
+
+-- 32 bytes, cut out by a start and an end
+cut : (at k : ℕ) (s : List ℕ) → take (at + k + 32 - (at + k)) (drop (at + k) s) ≡ part (at + k) 32 s
+unfolding part
+cut at k s = let w : at + k + 32 - (at + k) ≡ 32 = omega arith in ap (λ (n : ℕ). take n (drop (at + k) s)) w
+
+slot-cut : (r : ℕ) (d : List ℕ) → part (slotPlace r + 32) 32 d ≡ bodyAt r d
+unfolding bodyAt recordAt
+slot-cut r d = sym (part-part 32 32 (slotPlace r) 64 d (omega arith))
+
+copy-cut : (e : ℕ) (u : List ℕ) → part (entryPlace e + 48) 32 u ≡ copyBodyAt e u
+unfolding copyBodyAt recordAt
+copy-cut e u = sym (part-part 48 32 (entryPlace e) 80 u (omega arith))
+
+-- a body is 32 bytes long
+pub length-slot-body : (d u : List ℕ) (r : ℕ) → r < rows d → length (bodyOf (Data r) d u) ≡ 32
+unfolding bodyOf
+length-slot-body d u r h =
+    rw (lt-ltb r (rows d) h) (ap length (sym (slot-cut r d)) ∙ length-part (slotPlace r + 32) 32 d (omega (arith, slot-inside r d h)))
+
+pub length-copy-body : (d u : List ℕ) (e : ℕ) → e < entries u → length (bodyOf (Undo e) d u) ≡ 32
+unfolding bodyOf
+length-copy-body d u e h =
+    rw (lt-ltb e (entries u) h) (ap length (sym (copy-cut e u)) ∙ length-part (entryPlace e + 48) 32 u (omega (arith, entry-inside e u h)))
+
+-- what is handed back, and where it begins
+abbrev Handed : Place → List ℕ → List ℕ → ℕ × ℕ → ℕ × ℕ → List ℕ → ℕ × ℕ → Type 0
+Handed place d u pd pu b pb = (b ≡ bodyOf place d u) × (pb ≡ bodyFrom place d u pd pu)
+
+-- the empty part at the beginning of an area
+nothing : (p : ℕ × ℕ) → _≡_ {A = ℕ × ℕ} (p .0, 0 + p .1) p
+nothing p = ap (λ (n : ℕ). (p .0, n)) (omega arith)
+
+module _ {place : Place} (d u : List ℕ) (pd pu : ℕ × ℕ) where
+  pub hand-slot : {at : ℕ} (r : ℕ) → place ≡ Data r → r < rows d → at ≡ slotPlace r
+      → Handed place d u pd pu (take (at + 32 + 32 - (at + 32)) (drop (at + 32) d)) (pd .0, at + 32 + pd .1)
+  unfolding bodyOf bodyFrom
+  hand-slot {at} r is inside found = (
+    rw (is, lt-ltb r (rows d) inside) (cut at 32 d ∙ ap (λ (n : ℕ). part (n + 32) 32 d) found ∙ slot-cut r d),
+    rw (is, lt-ltb r (rows d) inside) (ap (λ (n : ℕ). (pd .0, n)) (omega arith)),
+  )
+
+  pub hand-copy : {at : ℕ} (e : ℕ) → place ≡ Undo e → e < entries u → at ≡ entryPlace e
+      → Handed place d u pd pu (take (at + 48 + 32 - (at + 48)) (drop (at + 48) u)) (pu .0, at + 48 + pu .1)
+  unfolding bodyOf bodyFrom
+  hand-copy {at} e is inside found = (
+    rw (is, lt-ltb e (entries u) inside) (cut at 48 u ∙ ap (λ (n : ℕ). part (n + 48) 32 u) found ∙ copy-cut e u),
+    rw (is, lt-ltb e (entries u) inside) (ap (λ (n : ℕ). (pu .0, n)) (omega arith)),
+  )
+
+  pub hand-none : place ≡ Nowhere → Handed place d u pd pu [] (pd .0, 0 + pd .1)
+  unfolding bodyOf bodyFrom
+  hand-none is = (rw is, rw is (nothing pd))
+
+  pub hand-no-slot : (r : ℕ) → place ≡ Data r → rows d ≤ r → Handed place d u pd pu [] (pd .0, 0 + pd .1)
+  unfolding bodyOf bodyFrom
+  hand-no-slot r is outside = (rw (is, le-ltb r (rows d) outside), rw (is, le-ltb r (rows d) outside) (nothing pd))
+
+  pub hand-no-copy : (e : ℕ) → place ≡ Undo e → entries u ≤ e → Handed place d u pd pu [] (pd .0, 0 + pd .1)
+  unfolding bodyOf bodyFrom
+  hand-no-copy e is outside = (rw (is, le-ltb e (entries u) outside), rw (is, le-ltb e (entries u) outside) (nothing pd))

@@ -1,0 +1,4 @@
+pub mod Chains
+pub mod Enough
+pub mod Walks
+pub mod Bodies

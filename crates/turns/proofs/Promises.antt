@@ -1,0 +1,82 @@
+-- The promises of begin, next statement and commit: no second result meets their contracts, and a refused call leaves desk and status
+-- page as they were. Assumes nothing.
+use mathlib.Core.Path.{_≡_, refl, sym, ap, _∙_}
+use mathlib.Core.List.{List}
+use Prim.Native.Nat.{ℕ, zero, suc}
+use Rattle.ground.specs.Refuse.{settle}
+use Rattle.ground.specs.Does.{Does}
+use Rattle.ground.proofs.Once.{once}
+use Rattle.answer.specs.declared.Answer.{Answer}
+use Rattle.answer.specs.Code.{codeOf}
+use Rattle.answer.proofs.Codes.{codeOf-injective}
+use Rattle.desk.specs.declared.Desk.{Desk}
+use Rattle.desk.specs.Turns.{placeIn, begun, moved, closed}
+use Rattle.kind.specs.Areas.{Areas}
+use Rattle.page.specs.Header.{txnId, putField}
+use Rattle.status.specs.declared.Status.the-variants.{InWork, Committed}
+use Rattle.status.specs.Status.{putStatus}
+use Rattle.turns.specs.declared.Begun.{Begun}
+use Rattle.turns.specs.declared.Moved.{Moved}
+use Rattle.turns.specs.Turns.{saidBegun, saidMoved, beginRefusal, beginRule, nextRefusal, nextRule, commitRefusal, commitRule}
+
+-- ---- no second result
+
+saidBegun-injective : (r r′ : Begun) → saidBegun r ≡ saidBegun r′ → r ≡ r′
+saidBegun-injective r r′ e =
+    let a : r .answer ≡ r′ .answer = codeOf-injective (r .answer) (r′ .answer) (ap (λ (p : ℕ × ℕ × Desk). p .0) e) in
+    let n : r .number ≡ r′ .number = ap (λ (p : ℕ × ℕ × Desk). p .1) e in
+    let d : r .desk ≡ r′ .desk = ap (λ (p : ℕ × ℕ × Desk). p .2) e in
+    λ i. record { answer = a i; number = n i; desk = d i }
+
+saidMoved-injective : (r r′ : Moved) → saidMoved r ≡ saidMoved r′ → r ≡ r′
+saidMoved-injective r r′ e =
+    let a : r .answer ≡ r′ .answer = codeOf-injective (r .answer) (r′ .answer) (ap (λ (p : ℕ × Desk). p .0) e) in
+    let d : r .desk ≡ r′ .desk = ap (λ (p : ℕ × Desk). p .1) e in
+    λ i. record { answer = a i; desk = d i }
+
+pub begin-once : (a : Areas) (d : Desk) (r r′ : Begun) (x x′ : List ℕ) → Does (beginRule a d) (saidBegun r) x → Does (beginRule a d) (saidBegun r′) x′ → (r ≡ r′) × (x ≡ x′)
+begin-once a d r r′ x x′ p q = let o = once p q in (saidBegun-injective r r′ (o .0), o .1)
+
+pub next-once : (a : Areas) (d : Desk) (x : ℕ) (r r′ : Moved) → saidMoved r ≡ nextRule a d x → saidMoved r′ ≡ nextRule a d x → r ≡ r′
+next-once a d x r r′ p q = saidMoved-injective r r′ (p ∙ sym q)
+
+pub commit-once : (a : Areas) (d : Desk) (s : ℕ) (r r′ : Moved) (x x′ : List ℕ) → Does (commitRule a d s) (saidMoved r) x → Does (commitRule a d s) (saidMoved r′) x′ → (r ≡ r′) × (x ≡ x′)
+commit-once a d s r r′ x x′ p q = let o = once p q in (saidMoved-injective r r′ (o .0), o .1)
+
+-- ---- a refused call leaves everything
+
+pub begin-refused : (a : Areas) (d : Desk) → (beginRule a d .0 .0 ≡ 0 → ⊥) → (beginRule a d .0 .2 ≡ d) × (beginRule a d .1 ≡ a .status)
+unfolding beginRule
+begin-refused a d = by (beginRefusal a d)
+  where
+    rule : ℕ → (ℕ × ℕ × Desk) × List ℕ
+    rule m =
+        settle m
+        ((0, d .next, begun d), putField txnId 0 (d .next) (putStatus (d .next) InWork (a .status)))
+        (λ (n : ℕ). ((n, 0, d), a .status))
+
+    by : (m : ℕ) → (rule m .0 .0 ≡ 0 → ⊥) → (rule m .0 .2 ≡ d) × (rule m .1 ≡ a .status)
+    by zero h = absurd (h refl)
+    by (suc m) h = (refl, refl)
+
+pub next-refused-leaves : (a : Areas) (d : Desk) (x : ℕ) → (nextRule a d x .0 ≡ 0 → ⊥) → nextRule a d x .1 ≡ d
+unfolding nextRule
+next-refused-leaves a d x = by (nextRefusal a d x)
+  where
+    rule : ℕ → ℕ × Desk
+    rule m = settle m (0, moved (placeIn x (d .numbers)) d) (λ (n : ℕ). (n, d))
+
+    by : (m : ℕ) → (rule m .0 ≡ 0 → ⊥) → rule m .1 ≡ d
+    by zero h = absurd (h refl)
+    by (suc m) h = refl
+
+pub commit-refused-leaves : (a : Areas) (d : Desk) (x : ℕ) → (commitRule a d x .0 .0 ≡ 0 → ⊥) → (commitRule a d x .0 .1 ≡ d) × (commitRule a d x .1 ≡ a .status)
+unfolding commitRule
+commit-refused-leaves a d x = by (commitRefusal a d x)
+  where
+    rule : ℕ → (ℕ × Desk) × List ℕ
+    rule m = settle m ((0, closed (placeIn x (d .numbers)) d), putStatus x Committed (a .status)) (λ (n : ℕ). ((n, d), a .status))
+
+    by : (m : ℕ) → (rule m .0 .0 ≡ 0 → ⊥) → (rule m .0 .1 ≡ d) × (rule m .1 ≡ a .status)
+    by zero h = absurd (h refl)
+    by (suc m) h = (refl, refl)

@@ -1,0 +1,53 @@
+-- `turns::commit` meets its contract: by what admission says. Assumes nothing.
+use mathlib.Core.Path.{_≡_, refl, sym, ap, _∙_}
+use Rattle.ground.proofs.Once.{does-case}
+use Rattle.desk.specs.declared.Desk.{Desk}
+use Rattle.turns.proofs.Calls.{Admits, admits, admits-place, admits-session, admits-status, commit-refused, commit-0}
+use borrow.Author.Needs.{needs}
+use Rattle.turns.proofs.commit.Statement.{statement}
+use Rattle.turns.proofs.commit.Tie as tie
+
+-- the session was admitted, at the place that admission gave
+admitted : (c : tie.After-known-told2)
+    → let start = c .before .before .before .before .before .before .before .before .before .before .before .args in
+    Admits (start .«data» .now) (start .undo .now) (start .status .now) (start .t4) (start .session) (c .before .a2 .given .0 .0)
+admitted c = admits _ _ _ _ _ _ (sym (c .before .before .before .admit .ensures) ∙ c .before .a2 .given .1)
+
+admit-requires : tie.Need-admit-requires
+admit-requires c κs = search needs
+
+enum-known-a : tie.Need-enum-known-a
+enum-known-a c = search needs
+
+enum-known-a-2 : tie.Need-enum-known-a-2
+enum-known-a-2 c = search needs
+
+put-status-requires : tie.Need-put-status-requires
+put-status-requires c κs = let a = admitted (c .before) in (admits-session _ _ _ _ _ _ a, admits-status _ _ _ _ _ _ a)
+
+commit-requires : tie.Need-commit-requires
+commit-requires c κs = admits-place _ _ _ _ _ _ (admitted (c .before .before .before .before))
+
+returns : tie.Need-returns
+returns c = does-case (commit-refused _ _ _ _ _ _ (sym (c .before .before .before .admit .ensures) ∙ c .before .a .given .1)) refl refl
+
+same-length : tie.Need-same-length
+same-length c = search needs
+
+returns-2 : tie.Need-returns-2
+returns-2 c =
+    let put = c .before .before .before in
+    does-case (commit-0 _ _ _ _ _ _ (admitted (put .before .before))) (ap (λ (d : Desk). (0, d)) (c .commit .ensures)) (put .put-status .ensures)
+
+pub commit-spec : {M : Type 1} → statement M
+commit-spec =
+    tie.close
+    (tie.spec
+    admit-requires
+    enum-known-a
+    enum-known-a-2
+    put-status-requires
+    commit-requires
+    returns
+    same-length
+    returns-2)
