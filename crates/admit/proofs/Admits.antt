@@ -1,19 +1,18 @@
 -- What admission says to a call: where a session is refused, the call's list of refusals answers that number whatever stands behind
 -- it; where it is admitted, the list goes on behind 4. Once, for all session calls. Assumes nothing.
-use mathlib.Core.Path.{_≡_, refl, sym, ap, _∙_}
-use mathlib.Core.Bool.{Bool, true, false, not, _&&_, cond}
-use mathlib.Core.List.{List, [], _∷_}
+use mathlib.Core.Path.{_≡_, refl, sym, ap}
+use mathlib.Core.Bool.{Bool, true, false, not, cond}
+use mathlib.Core.List.{List, _∷_}
 use Prim.Native.Nat.{ℕ, _<_, _≤_}
 use native.Mathlib.Omega.{arith}
-use lib.Dec.{eqb, ltb}
+use lib.Dec.{ltb}
 use borrow.Author.Tests.{eq-eqb, ne-eqb, lt-ltb, le-ltb}
 use Rattle.ground.specs.Refuse.{firstOf, settle}
 use Rattle.answer.specs.declared.Answer.{Answer}
 use Rattle.answer.specs.declared.Answer.the-variants.{BadLength, Unsound, NotOpen}
 use Rattle.answer.specs.Code.{codeOf}
-use Rattle.desk.specs.Desk.{sessions}
+use Rattle.places.specs.Open.{placeIn, isOpen}
 use Rattle.desk.specs.Sound.{soundColumns}
-use Rattle.desk.specs.Turns.{placeIn, isOpen}
 use Rattle.kind.specs.Kind.{lengthsOk}
 use Rattle.admit.specs.declared.Admitted.{Admitted}
 use Rattle.admit.specs.declared.Admitted.the-variants.{At, Refused}

@@ -3,8 +3,8 @@ use Prim.Native.Nat.{ℕ}
 use mathlib.Core.Bool.{cond}
 use mathlib.Core.List.{List}
 use Rattle.answer.specs.declared.Answer.the-variants.{BadLength, Unsound, NotOpen}
+use Rattle.places.specs.Open.{placeIn, isOpen}
 use Rattle.desk.specs.Sound.{soundColumns}
-use Rattle.desk.specs.Turns.{placeIn, isOpen}
 use Rattle.kind.specs.Kind.{lengthsOk}
 use Rattle.admit.specs.declared.Admitted.{Admitted}
 use Rattle.admit.specs.declared.Admitted.the-variants.{At, Refused}

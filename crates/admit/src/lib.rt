@@ -1,6 +1,7 @@
 // What every session call asks first: lengths allowed, desk sound, session open ("01, When the desk says no", 1, 2 and 4). The desk is
 // lent by its columns, and no copy of it is made.
 use answer::Answer;
+use columns::Limits;
 ghost use mathlib.Core.Path.{_≡_};
 ghost use Rattle.admit.specs.Admit.{admitOf};
 
@@ -29,11 +30,11 @@ pub fn admit<'a>(
     if !desk::columns_sound(next, numbers, statements, lists) {
         return Admitted::Refused(Answer::Unsound);
     }
-    let k = desk::find(numbers, x);
+    let k = places::find(numbers, x);
     if x == 0 {
         return Admitted::Refused(Answer::NotOpen);
     }
-    if k < 16 {
+    if k < Limits::SESSIONS {
         Admitted::At(k)
     } else {
         Admitted::Refused(Answer::NotOpen)

@@ -1,14 +1,8 @@
--- The desk's limits, and a desk without sessions ("01, Sessions and sight"). Assumes nothing.
+-- The first and the last number and the first statement of a desk, and a desk without sessions ("01, Sessions and sight"). Assumes
+-- nothing.
 use Prim.Native.Nat.{ℕ}
 use lib.ListN.{replicate}
 use Rattle.desk.specs.declared.Desk.{Desk}
-
--- "at most 16 open sessions"; of each "the numbers open when it began: at most 15"
-abbrev pub sessions : ℕ
-sessions = 16
-
-abbrev pub members : ℕ
-members = 15
 
 -- "the next number (1 to 32,576)"
 abbrev pub firstNumber : ℕ
@@ -20,9 +14,6 @@ lastNext = 32576
 -- "its statement (0 to 65,535)"
 abbrev pub firstStatement : ℕ
 firstStatement = 0
-
-abbrev pub lastStatement : ℕ
-lastStatement = 65535
 
 -- "a desk without sessions"
 unfoldable pub freshDesk : ℕ → Desk

@@ -1,33 +1,14 @@
--- When a desk is sound ("01, Sessions and sight": "Anything else is an unsound desk"), and how many sessions are open.
--- Over columns, so that the check needs no copy of the desk. Assumes nothing.
-use Prim.Native.Nat.{ℕ, zero, suc, _+_, _*_}
-use mathlib.Core.Bool.{Bool, true, not, _&&_, _||_, cond}
+-- When a desk is sound ("01, Sessions and sight": "Anything else is an unsound desk"). Over columns, so that the check needs no copy
+-- of the desk. Assumes nothing.
+use Prim.Native.Nat.{ℕ}
+use mathlib.Core.Bool.{Bool, _&&_}
 use mathlib.Core.List.{List}
-use lib.ListN.{getD}
-use lib.Dec.{eqb, leb, ltb}
-use Rattle.ground.specs.Range.{countBelow, allBelow}
+use lib.Dec.{leb}
+use Rattle.ground.specs.Range.{allBelow}
+use Rattle.columns.specs.Limits.{sessions}
+use Rattle.places.specs.Places.{ascending, sessionSound}
 use Rattle.desk.specs.declared.Desk.{Desk}
-use Rattle.desk.specs.Desk.{sessions, members, firstNumber, lastNext, lastStatement}
-
--- of a run of places of l that starts at `at`: the number at place i follows the one before it, which is no unused place
-unfoldable pub follows : List ℕ → ℕ → ℕ → Bool
-follows l at zero = true
-follows l at (suc i) = ltb 0 (getD l (at + i) 0) && ltb (getD l (at + i) 0) (getD l (at + suc i) 0)
-
--- "at least 1, ascending means no two equal, unused places are zero": place i is unused, or its number is below `top` and follows
-unfoldable pub placed : ℕ → List ℕ → ℕ → ℕ → Bool
-placed top l at i = eqb (getD l (at + i) 0) 0 || (ltb (getD l (at + i) 0) top && follows l at i)
-
--- the n places from `at` on: numbers ascending from 1 on and below `top`, the unused places behind them
-unfoldable pub ascending : ℕ → List ℕ → ℕ → ℕ → Bool
-ascending top l at n = allBelow (placed top l at) n
-
--- place k: "its statement (0 to 65,535) and the numbers open when it began: at most 15, ascending, below its own".
--- Below the number 0 there is none: the list of an unused place is zero, and so is its statement
-unfoldable pub sessionSound : List ℕ → List ℕ → List ℕ → ℕ → Bool
-sessionSound numbers statements lists k =
-    leb (getD statements k 0) (cond (eqb (getD numbers k 0) 0) 0 lastStatement)
-    && ascending (getD numbers k 0) lists (k * members) members
+use Rattle.desk.specs.Desk.{firstNumber, lastNext}
 
 -- "the next number (1 to 32,576) and at most 16 open sessions in ascending order. Each has its number (below next)"
 unfoldable pub soundColumns : ℕ → List ℕ → List ℕ → List ℕ → Bool
@@ -39,7 +20,3 @@ soundColumns next numbers statements lists =
 
 unfoldable pub sound : Desk → Bool
 sound d = soundColumns (d .next) (d .numbers) (d .statements) (d .lists)
-
--- how many sessions are open
-unfoldable pub openCount : List ℕ → ℕ
-openCount numbers = countBelow (λ (k : ℕ). not (eqb (getD numbers k 0) 0)) sessions

@@ -3,7 +3,7 @@
 use mathlib.Core.Path.{_≡_, refl, ap, _∙_}
 use mathlib.Core.Bool.{Bool, true, false, _&&_, and-false}
 use mathlib.Core.List.{List, _∷_}
-use Prim.Native.Nat.{ℕ, _+_}
+use Prim.Native.Nat.{ℕ}
 use lib.ListN.{getD, replicate}
 use lib.Dec.{eqb, ltb}
 use Rattle.kind.specs.Kind.{pageSize}
@@ -12,12 +12,15 @@ use Rattle.kind.specs.Place.{numberOf}
 use Rattle.status.specs.declared.Status.the-variants.{Committed}
 use Rattle.status.specs.Status.{statusPlace, statusShift, statusAt}
 use Rattle.pointer.specs.Pointer.{pointerAt}
-use Rattle.ground.specs.Range.{firstFrom, countBelow, allBelow}
+use Rattle.ground.specs.Range.{firstFrom, allBelow}
+use Rattle.columns.specs.Columns.{smallest, markOf}
+use Rattle.places.specs.Open.{placeIn, isOpen}
+use Rattle.places.specs.Places.{follows, placed, ascending, sessionSound}
 use Rattle.desk.specs.declared.Desk.{Desk}
 use Rattle.desk.specs.declared.View.{View}
 use Rattle.desk.specs.Desk.{freshDesk}
-use Rattle.desk.specs.Sound.{follows, placed, ascending, sessionSound, soundColumns, sound}
-use Rattle.desk.specs.Turns.{placeIn, isOpen, moved, smallest, markOf, mark}
+use Rattle.desk.specs.Sound.{soundColumns, sound}
+use Rattle.desk.specs.Turns.{moved, mark}
 use Rattle.sight.specs.declared.Stamp.{Stamp}
 use Rattle.sight.specs.Sight.{standing, committed, sees, earlier, known, there}
 use Rattle.sight.specs.Conflict.{conflictOf, isDead}

@@ -6,9 +6,10 @@ use Prim.Native.Nat.{ℕ, _+_}
 use native.Mathlib.Omega.{arith}
 use lib.ListN.{length}
 use borrow.Author.Tests.{lt-ltb, le-ltb}
+use Rattle.places.specs.Open.{openCount}
 use Rattle.desk.specs.declared.Desk.{Desk}
 use Rattle.desk.specs.Desk.{firstNumber, freshDesk, noDesk}
-use Rattle.desk.specs.Sound.{sound, openCount}
+use Rattle.desk.specs.Sound.{sound}
 use Rattle.kind.specs.Kind.{lengthsOk}
 use Rattle.kind.specs.Areas.{areas}
 use Rattle.keep.specs.Whole.{highest, storeRight}

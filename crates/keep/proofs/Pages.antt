@@ -10,14 +10,13 @@ use lib.Seq.{sets, sets-eq, length-take-le, take-at, take-all}
 use lib.Dec.{leb}
 use borrow.Author.Tests.{leb-true, le-leb, lt-leb}
 use Rattle.ground.proofs.Ranges.{and-true-left, and-true-right}
-use Rattle.little.specs.Little.{little, part}
-use Rattle.little.proofs.Parts.{part-part}
 use Rattle.kind.specs.declared.Kind.{Kind}
 use Rattle.kind.specs.Kind.{dataKind, undoKind, statusKind}
 use Rattle.kind.specs.Areas.{areas}
 use Rattle.page.specs.Header.{pageAt}
 use Rattle.status.specs.Status.{statusAt}
 use Rattle.page.specs.Whole.{pageRight, sealedPage, freshPage}
+use Rattle.page.proofs.Headers.{pageAt-lent}
 use Rattle.page.proofs.Rights.{length-freshPage}
 use Rattle.keep.specs.Whole.{freshArea, sealedArea, areaRight, highest, ended, allEnded, storeRight}
 
@@ -63,17 +62,9 @@ endedAt s i = ended (statusAt (i + 1) s)
 
 -- what the test of page p answered, as it was lent
 pub rightAt-lent : {r : Bool} (k : Kind) (s : List ℕ) (p : ℕ) → r ≡ pageRight k (p + 1) (take (p * 8192 + 8192 - p * 8192) (drop (p * 8192) s)) → rightAt k s p ≡ r
-unfolding pageAt part
-rightAt-lent k s p h =
-    let e : p * 8192 + 8192 - p * 8192 ≡ 8192 = omega arith in
-    ap (λ (m : ℕ). pageRight k (p + 1) (take m (drop (p * 8192) s))) (sym e) ∙ sym h
+rightAt-lent k s p h = sym (h ∙ ap (pageRight k (p + 1)) (pageAt-lent p s))
 
 -- ---- the highest number
-
--- as it is read
-pub highest-read : (s : List ℕ) → little (part 8 8 s) ≡ highest s
-unfolding highest pageAt
-highest-read s = sym (ap little (part-part 8 8 0 8192 s (omega arith)))
 
 module _ (d u s : List ℕ) where
   pub storeRight-high : 32575 < highest s → storeRight (areas d u s) ≡ false

@@ -20,21 +20,20 @@ use Rattle.ground.proofs.Once.{once}
 use Rattle.answer.specs.declared.Answer.{Answer}
 use Rattle.answer.specs.Code.{codeOf}
 use Rattle.answer.proofs.Codes.{codeOf-injective}
-use Rattle.little.specs.Little.{little, digits, part, Bytes}
-use Rattle.little.proofs.Parts.{length-part, part-append, part-behind, part-sets-below}
-use Rattle.little.proofs.AllBytes.{bytes-part}
+use Rattle.little.specs.Little.{digits, Bytes}
+use Rattle.places.specs.Open.{openCount}
 use Rattle.desk.specs.declared.Desk.{Desk}
 use Rattle.desk.specs.Desk.{freshDesk, noDesk}
-use Rattle.desk.specs.Sound.{sound, openCount}
+use Rattle.desk.specs.Sound.{sound}
 use Rattle.kind.specs.declared.Kind.{Kind}
 use Rattle.kind.specs.Kind.{pages, dataKind, undoKind, statusKind, lengthsOk}
 use Rattle.kind.specs.Areas.{Areas, badLength}
-use Rattle.page.specs.Header.{pageAt, txnId, fieldIn, putField}
+use Rattle.page.specs.Header.{pageAt, txnId, fieldIn}
 use Rattle.status.specs.Status.{statusAt}
 use Rattle.page.specs.Whole.{checksumOf, pageRight, headerRight, sealedPage, freshPage}
 use Rattle.kind.proofs.Lengths.{Lent, AllLent, all-lent}
-use Rattle.page.proofs.Headers.{fieldIn-pageAt}
-use Rattle.page.proofs.Rights.{Fitting, fitting-data, fitting-undo, fitting-status, length-sealedPage, statusAt-sealedPage, pageAt-sealedPage-same, pageAt-sealedPage-other, pageRight-sealed, length-freshPage, txnId-freshPage, pageRight-freshPage}
+use Rattle.page.proofs.Headers.{length-pageAt, bytes-pageAt, pageAt-append, pageAt-behind}
+use Rattle.page.proofs.Rights.{Fitting, fitting-data, fitting-undo, fitting-status, length-sealedPage, statusAt-sealedPage, txnId-sealedPage, pageAt-sealedPage-same, pageAt-sealedPage-other, pageRight-sealed, length-freshPage, txnId-freshPage, pageRight-freshPage}
 use Rattle.keep.specs.declared.Opened.{Opened}
 use Rattle.keep.specs.Whole.{freshArea, sealedArea, areaRight, highest, ended, allEnded, storeRight}
 use Rattle.keep.specs.Keep.{said, formatRefusal, formatted, formatRule, sealRefusal, sealed, sealRule, openRefusal, openRule}
@@ -109,16 +108,16 @@ length-freshArea k (suc n) =
     omega (arith, length-append (freshArea k n) (freshPage k (suc n)), length-freshArea k n, length-freshPage k (suc n))
 
 pub pageAt-freshArea : (k : Kind) (n p : ℕ) → p < n → pageAt p (freshArea k n) ≡ freshPage k (p + 1)
-unfolding freshArea pageAt
+unfolding freshArea
 pageAt-freshArea k zero p h = absurd (omega arith)
 pageAt-freshArea k (suc n) p h =
     ⊎-elim
     (λ (e : p ≡ n).
-    ap (λ (m : ℕ). part (m * 8192) 8192 (freshArea k n ++ freshPage k (suc n))) e
-    ∙ part-behind (freshArea k n) (freshPage k (suc n)) (n * 8192) 8192 (length-freshArea k n) (omega (arith, length-freshPage k (suc n)))
+    ap (λ (m : ℕ). pageAt m (freshArea k n ++ freshPage k (suc n))) e
+    ∙ pageAt-behind n (freshArea k n) (freshPage k (suc n)) (length-freshArea k n) (length-freshPage k (suc n))
     ∙ ap (freshPage k) (ap suc (sym e) ∙ sym (add-one p)))
     (λ (l : p < n).
-    part-append (p * 8192) 8192 (freshArea k n) (freshPage k (suc n)) (omega (arith, length-freshArea k n)) ∙ pageAt-freshArea k n p l)
+    pageAt-append p (freshArea k n) (freshPage k (suc n)) (omega (arith, length-freshArea k n)) ∙ pageAt-freshArea k n p l)
     (eq-or-lt-of-le (le-of-suc-le-suc h))
 
 pages-freshArea : (k : Kind) (n : ℕ) → pages (freshArea k n) ≡ n
@@ -164,20 +163,15 @@ pageAt-sealedArea (suc n) p s h =
 
 pub pageRight-sealedArea : (k : Kind) (s : List ℕ) (p : ℕ) → p < pages s → Bytes s
     → pageRight k (p + 1) (pageAt p (sealedArea (pages s) s)) ≡ headerRight k (p + 1) (pageAt p s)
-unfolding pageAt
 pageRight-sealedArea k s p h b =
     ap (pageRight k (p + 1)) (pageAt-sealedArea (pages s) p s h)
-    ∙ pageRight-sealed k (p + 1) (pageAt p s) (length-part (p * 8192) 8192 s (omega arith)) (bytes-part (p * 8192) 8192 s b)
+    ∙ pageRight-sealed k (p + 1) (pageAt p s) (length-pageAt p s (omega arith)) (bytes-pageAt p s b)
 
 -- sealing changes no number handed out and no status
 highest-sealedArea : (n : ℕ) (s : List ℕ) → highest (sealedArea n s) ≡ highest s
-unfolding sealedArea highest sealedPage putField
+unfolding sealedArea highest
 highest-sealedArea zero s = refl
-highest-sealedArea (suc n) s =
-    fieldIn-pageAt txnId 0 (sealedPage n (sealedArea n s)) (omega arith)
-    ∙ ap little (part-sets-below 8 8 (sealedArea n s) (n * 8192 + 20) (digits 4 (checksumOf (pageAt n (sealedArea n s)))) (omega arith))
-    ∙ sym (fieldIn-pageAt txnId 0 (sealedArea n s) (omega arith))
-    ∙ highest-sealedArea n s
+highest-sealedArea (suc n) s = txnId-sealedPage n 0 (sealedArea n s) ∙ highest-sealedArea n s
 
 statusAt-sealedArea : (n m : ℕ) (s : List ℕ) → statusAt m (sealedArea n s) ≡ statusAt m s
 unfolding sealedArea

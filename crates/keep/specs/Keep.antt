@@ -6,9 +6,10 @@ use mathlib.Core.List.{[], _∷_}
 use lib.Dec.{ltb}
 use Rattle.ground.specs.Refuse.{firstOf, settle}
 use Rattle.answer.specs.Code.{codeOf}
+use Rattle.places.specs.Open.{openCount}
 use Rattle.desk.specs.declared.Desk.{Desk}
 use Rattle.desk.specs.Desk.{firstNumber, freshDesk, noDesk}
-use Rattle.desk.specs.Sound.{sound, openCount}
+use Rattle.desk.specs.Sound.{sound}
 use Rattle.kind.specs.Kind.{pages, dataKind, undoKind, statusKind}
 use Rattle.kind.specs.Areas.{Areas, areas, badLength}
 use Rattle.keep.specs.Whole.{freshArea, sealedArea, highest, storeRight}

@@ -11,7 +11,7 @@ use Rattle.status.specs.declared.Status.the-variants.{InWork, Committed, Withdr
 use Rattle.kind.specs.Kind.{pages, dataKind, undoKind, statusKind}
 use Rattle.kind.specs.Areas.{Areas}
 use Rattle.page.specs.Header.{pageAt, txnId, fieldIn}
-use Rattle.status.specs.Status.{statusAt}
+use Rattle.status.specs.Status.{lastNumber, statusAt}
 use Rattle.page.specs.Whole.{pageRight, sealedPage, freshPage}
 
 -- pages 1 to n, as format writes them
@@ -31,9 +31,6 @@ areaRight k s = allBelow (λ (p : ℕ). pageRight k (p + 1) (pageAt p s)) (pages
 -- "The status page's txn_id is the highest number handed out", and at most 32,575
 unfoldable pub highest : List ℕ → ℕ
 highest s = fieldIn txnId (pageAt 0 s)
-
-abbrev pub lastNumber : ℕ
-lastNumber = 32575
 
 -- "01 or 10": committed or withdrawn
 abbrev pub ended : Status → Bool

@@ -12,7 +12,8 @@ ghost use Rattle.desk.specs.Desk.{noDesk};
 ghost use Rattle.kind.specs.Kind.{pageSize, pages};
 ghost use Rattle.page.specs.Count.{Roomy};
 ghost use Rattle.kind.specs.Areas.{areas};
-ghost use Rattle.keep.specs.Whole.{freshArea, sealedArea, areaRight, highest, lastNumber, ended, allEnded, storeRight};
+ghost use Rattle.status.specs.Status.{lastNumber};
+ghost use Rattle.keep.specs.Whole.{freshArea, sealedArea, areaRight, highest, ended, allEnded, storeRight};
 ghost use Rattle.keep.specs.Keep.{said, formatRule, sealRule, openRule};
 
 // What format and open answer: the number, and the desk, which is all zeros where they refuse.
@@ -82,7 +83,7 @@ pub fn seal(data: &mut [u8], undo: &mut [u8], status: &mut [u8], desk: Desk) -> 
     if !desk::columns_sound(desk.next, &desk.numbers, &desk.statements, &desk.lists) {
         return Answer::Unsound;
     }
-    if desk::open_count(&desk.numbers) != 0 {
+    if places::open_count(&desk.numbers) != 0 {
         return Answer::StillOpen;
     }
     seal_area(data);
@@ -142,7 +143,7 @@ fn store_right(data: &[u8], undo: &[u8], status: &[u8], top: u64) -> bool
     requires { ⌜ (pages (now «data») ≤ 65536) × (pages (now undo) ≤ 65536) × (length (now status) ≡ pageSize) × (top ≡ highest (now status)) ⌝ }
     ensures { λ r. ⌜ r ≡ storeRight (areas (now («data» .entry)) (now (undo .entry)) (now (status .entry))) ⌝ }
 {
-    if 32575 < top {
+    if Status::LAST_NUMBER < top {
         return false;
     }
     area_right(data, Kind::DATA)
@@ -158,7 +159,7 @@ pub fn open(data: &[u8], undo: &[u8], status: &[u8]) -> Opened
     if !kind::lengths_ok(data.len(), undo.len(), status.len()) {
         return refused(Answer::BadLength);
     }
-    let top = little::get8(status, 8);
+    let top = page::header::txn_id(status, 0);
     if !store_right(data, undo, status, top) {
         return refused(Answer::BadPages);
     }

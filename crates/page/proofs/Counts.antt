@@ -21,7 +21,7 @@ use Rattle.records.specs.Slot.{slotOf, slotAt, bodyAt}
 use Rattle.records.specs.Entry.{entryOf, entryAt, copyBodyAt}
 use Rattle.page.specs.Header.{pageAt, txnId, itemCount, putField}
 use Rattle.page.specs.Count.{inUse, itemsIn, counted, touched}
-use Rattle.page.proofs.Headers.{length-putField, bytes-putField}
+use Rattle.page.proofs.Headers.{pageAt-lent, length-putField, bytes-putField}
 use Rattle.kind.proofs.Places.{Lie, multiple-more, placeOf-numberOf, recordAt-header}
 use Rattle.records.proofs.Slots.{slots-lie}
 use Rattle.records.proofs.Entries.{entries-lie}
@@ -30,10 +30,8 @@ use Rattle.records.proofs.Entries.{entries-lie}
 
 -- the store of a count: n is what was counted, y what the area then is
 pub counted-store : {y : List ℕ} (k : Kind) (p : ℕ) (s : List ℕ) (n : ℕ) → n ≡ itemsIn k (take (p * 8192 + 8192 - p * 8192) (drop (p * 8192) s)) → y ≡ sets s (p * 8192 + 38) (digits 2 n) → y ≡ counted k p s
-unfolding counted putField pageAt part
-counted-store k p s n h q =
-    let e : p * 8192 + 8192 - p * 8192 ≡ 8192 = omega arith in
-    q ∙ ap (λ (v : ℕ). sets s (p * 8192 + 38) (digits 2 v)) (h ∙ ap (λ (m : ℕ). itemsIn k (take m (drop (p * 8192) s))) e)
+unfolding counted putField
+counted-store k p s n h q = q ∙ ap (λ (v : ℕ). sets s (p * 8192 + 38) (digits 2 v)) (h ∙ ap (itemsIn k) (pageAt-lent p s))
 
 -- record i of page p is in use where its first 8 bytes, as record of the area, are not 0
 inUse-recordAt : {size count : ℕ} → Lie 8192 size count → 8 ≤ size → (p i : ℕ) (s : List ℕ) → i < count

@@ -1,18 +1,18 @@
--- Laws of header fields: what a field stored into page p leaves of the pages and statuses of an area, and the offsets of the
--- header's fields. Assumes nothing.
+-- Laws of the pages of an area and of header fields: what a field stored into page p leaves of the pages and statuses of an area,
+-- and the offsets of the header's fields. Assumes nothing.
 use mathlib.Core.Path.{_≡_, refl, ap}
 use mathlib.Core.Logic.{⊎-elim}
-use mathlib.Core.List.{List, [], _∷_}
-use Prim.Native.Nat.{ℕ, zero, suc, _+_, _*_, _/_, _≤_, _<_}
+use mathlib.Core.List.{List, [], _∷_, _++_}
+use Prim.Native.Nat.{ℕ, zero, suc, _+_, _*_, _-_, _/_, _≤_, _<_}
 use native.Mathlib.Omega.{arith}
-use lib.ListN.{length}
+use lib.ListN.{length, take, drop}
 use lib.Seq.{sets, length-sets}
 use Rattle.ground.proofs.Ranges.{lt-or-le}
 use Rattle.little.specs.Little.{little, digits, part, Bytes}
 use Rattle.little.proofs.Digits.{length-digits}
-use Rattle.little.proofs.Parts.{part-part, part-sets-below, part-sets-above, part-sets-inside, getD-sets-below, getD-sets-above}
+use Rattle.little.proofs.Parts.{length-part, part-part, part-append, part-behind, part-sets-below, part-sets-above, part-sets-inside, getD-sets-below, getD-sets-above}
 use Rattle.little.proofs.Fields.{offset}
-use Rattle.little.proofs.AllBytes.{bytes-sets, bytes-digits}
+use Rattle.little.proofs.AllBytes.{bytes-part, bytes-sets, bytes-digits}
 use Rattle.kind.specs.declared.Kind.{Kind}
 use Rattle.kind.specs.Kind.{pageSize}
 use Rattle.status.specs.Status.{statusPlace, bitsIn, statusOf, statusAt}
@@ -29,6 +29,30 @@ pub header-offsets : (k : Kind) (id txn sum items : ℕ)
     → offsets (header k id txn sum items) 0 15
     ≡ 0 ∷ 8 ∷ 16 ∷ 20 ∷ 24 ∷ 28 ∷ 32 ∷ 36 ∷ 38 ∷ 40 ∷ 42 ∷ 44 ∷ 45 ∷ 46 ∷ 47 ∷ []
 header-offsets k id txn sum items = refl
+
+-- ---- page p of an area: its length, its bytes, where the area is made of two, and as it is lent
+
+pub length-pageAt : (p : ℕ) (s : List ℕ) → p * 8192 + 8192 ≤ length s → length (pageAt p s) ≡ 8192
+unfolding pageAt
+length-pageAt p s h = length-part (p * 8192) 8192 s h
+
+pub bytes-pageAt : (p : ℕ) (s : List ℕ) → Bytes s → Bytes (pageAt p s)
+unfolding pageAt
+bytes-pageAt p s h = bytes-part (p * 8192) 8192 s h
+
+pub pageAt-append : (p : ℕ) (s t : List ℕ) → p * 8192 + 8192 ≤ length s → pageAt p (s ++ t) ≡ pageAt p s
+unfolding pageAt
+pageAt-append p s t h = part-append (p * 8192) 8192 s t h
+
+pub pageAt-behind : (p : ℕ) (s page : List ℕ) → length s ≡ p * 8192 → length page ≡ 8192 → pageAt p (s ++ page) ≡ page
+unfolding pageAt
+pageAt-behind p s page e h = part-behind s page (p * 8192) 8192 e (omega arith)
+
+pub pageAt-lent : (p : ℕ) (s : List ℕ) → take (p * 8192 + 8192 - p * 8192) (drop (p * 8192) s) ≡ pageAt p s
+unfolding pageAt part
+pageAt-lent p s =
+    let e : p * 8192 + 8192 - p * 8192 ≡ 8192 = omega arith in
+    ap (λ (m : ℕ). take m (drop (p * 8192) s)) e
 
 -- ---- a field stored into page p of an area: the lengths, the bytes, the pages and the statuses
 

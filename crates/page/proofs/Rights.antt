@@ -1,7 +1,7 @@
 -- Laws of right pages: a page is right once it is sealed where its header was right but for the checksum, and a fresh page is
 -- right. Assumes nothing.
-use mathlib.Core.Path.{_≡_, ap, ap₂, _∙_}
-use mathlib.Core.Bool.{true, not}
+use mathlib.Core.Path.{_≡_, refl, sym, ap, ap₂, _∙_}
+use mathlib.Core.Bool.{Bool, true, false, not}
 use mathlib.Core.List.{List, _++_}
 use Prim.Native.Nat.{ℕ, _+_, _*_, _^_, _<_}
 use native.Mathlib.Nat.{one-le-pow}
@@ -9,6 +9,7 @@ use native.Mathlib.Omega.{arith}
 use lib.ListN.{length, take, drop, replicate}
 use lib.Seq.{sets, length-sets}
 use lib.Dec.{eqb}
+use borrow.Author.Tests.{eqb-true, eqb-false}
 use Rattle.ground.proofs.Ranges.{count-none, count-agree}
 use Rattle.little.specs.Little.{little, digits, part, bytesOf, Bytes}
 use Rattle.little.proofs.Digits.{length-digits}
@@ -63,6 +64,19 @@ pageAt-sealedPage-other p q s ne = pageAt-putField-other checksum p q (checksumO
 pub statusAt-sealedPage : (n p : ℕ) (s : List ℕ) → statusAt n (sealedPage p s) ≡ statusAt n s
 unfolding sealedPage
 statusAt-sealedPage n p s = statusAt-putField checksum n p (checksumOf (pageAt p s)) s (omega arith)
+
+-- a checksum is no byte of a txn_id
+pub txnId-sealedPage : (p q : ℕ) (s : List ℕ) → fieldIn txnId (pageAt q (sealedPage p s)) ≡ fieldIn txnId (pageAt q s)
+txnId-sealedPage p q s = by (eqb q p) refl
+  where
+    by : (t : Bool) → eqb q p ≡ t → fieldIn txnId (pageAt q (sealedPage p s)) ≡ fieldIn txnId (pageAt q s)
+    by true e =
+        let same : q ≡ p = eqb-true q p e in
+        ap (λ (n : ℕ). fieldIn txnId (pageAt n (sealedPage p s))) same
+        ∙ ap (fieldIn txnId) (pageAt-sealedPage-same p s)
+        ∙ ap little (part-sets-below 8 8 (pageAt p s) 20 (digits 4 (checksumOf (pageAt p s))) (omega arith))
+        ∙ ap (λ (n : ℕ). fieldIn txnId (pageAt n s)) (sym same)
+    by false e = ap (fieldIn txnId) (pageAt-sealedPage-other p q s (eqb-false q p e))
 
 -- ---- a page is right once it is sealed, where its header was right but for the checksum
 

@@ -18,6 +18,7 @@ use Rattle.kind.specs.declared.Kind.{Kind}
 use Rattle.page.specs.Header.{header, pageAt, putField}
 use Rattle.page.specs.Whole.{checksumOf, pageRight, sealedPage, blankPage, freshPage}
 use Rattle.page.specs.Count.{itemsIn}
+use Rattle.page.proofs.Headers.{pageAt-lent}
 
 pub length-blankPage : (k : Kind) (id : ℕ) → length (blankPage k id) ≡ 8192
 unfolding blankPage
@@ -82,10 +83,8 @@ blank-stores s at k id e₀ e₁ e₂ e₃ e₄ e₅ =
 
 -- the store of a checksum: x is what was computed, y what the area then is
 pub sealedPage-store : {y : List ℕ} (p : ℕ) (s : List ℕ) (x : ℕ) → x ≡ checksumOf (take (p * 8192 + 8192 - p * 8192) (drop (p * 8192) s)) → y ≡ sets s (p * 8192 + 20) (digits 4 x) → y ≡ sealedPage p s
-unfolding sealedPage putField pageAt part
-sealedPage-store p s x h q =
-    let e : p * 8192 + 8192 - p * 8192 ≡ 8192 = omega arith in
-    q ∙ ap (λ (v : ℕ). sets s (p * 8192 + 20) (digits 4 v)) (h ∙ ap (λ (m : ℕ). checksumOf (take m (drop (p * 8192) s))) e)
+unfolding sealedPage putField
+sealedPage-store p s x h q = q ∙ ap (λ (v : ℕ). sets s (p * 8192 + 20) (digits 4 v)) (h ∙ ap checksumOf (pageAt-lent p s))
 
 -- a blank page stored, and sealed where it lies, is a fresh one stored
 pub sealedPage-blankPage : {y z : List ℕ} (p : ℕ) (s : List ℕ) (k : Kind) (id : ℕ) → p * 8192 + 8192 ≤ length s

@@ -41,5 +41,5 @@ pub fn touch(s: &mut [u8], p: usize, k: Kind, txn: u64)
     ensures { λ _. ⌜ now (s .exit) ≡ touched k p txn (now (s .entry)) ⌝ }
 {
     recount(s, p, k);
-    little::put8(s, p * Kind::PAGE + 8, txn);
+    crate::header::put_txn_id(s, p, txn);
 }

@@ -13,7 +13,7 @@ use lib.Dec.{eqb, ltb}
 use borrow.Author.Tests.{eqb-false, ne-eqb, lt-ltb, ltb-true}
 use Rattle.ground.specs.Range.{countBelow}
 use Rattle.ground.proofs.Ranges.{and-true-left, and-true-right, all-at, all-intro, all-agree}
-use Rattle.desk.specs.Sound.{follows, placed, ascending}
+use Rattle.places.specs.Places.{follows, placed, ascending}
 
 or-right : (a b : Bool) → (a || b) ≡ true → a ≡ false → b ≡ true
 or-right true b e f = let z : _≡_ {A = ℕ} 0 1 = cc in absurd (omega arith)

@@ -12,13 +12,16 @@ use lib.Dec.{eqb, ltb, leb}
 use borrow.Author.Tests.{eqb-true, eqb-false, ltb-true, ltb-false, leb-true, le-leb, lt-ltb, eq-eqb, ne-eqb, not-true, not-false}
 use Rattle.ground.specs.Range.{firstFrom, allBelow}
 use Rattle.ground.proofs.Ranges.{lt-or-le, and-true-left, and-true-right, first-passes, first-before, all-at, all-intro}
+use Rattle.columns.proofs.Columns.{without-before, without-after, sets-other, sets-part}
+use Rattle.columns.specs.Columns.{without, smallest, markOf}
+use Rattle.columns.specs.Limits.{lastStatement}
+use Rattle.places.proofs.Sounds.{session-unused, session-open}
+use Rattle.places.specs.Open.{openCount, placeIn, isOpen}
+use Rattle.places.specs.Places.{ascending, sessionSound}
 use Rattle.desk.specs.declared.Desk.{Desk}
 use Rattle.desk.specs.declared.View.{View}
-use Rattle.desk.specs.Desk.{lastStatement}
-use Rattle.desk.specs.Sound.{ascending, sessionSound, soundColumns, sound, openCount}
-use Rattle.desk.specs.Turns.{placeIn, isOpen, viewAt, begun, moved, without, closed, smallest, markOf, mark}
-use Rattle.desk.proofs.Sounds.{session-unused, session-open}
-use Rattle.desk.proofs.Columns.{without-before, without-after, sets-other, sets-part}
+use Rattle.desk.specs.Sound.{soundColumns, sound}
+use Rattle.desk.specs.Turns.{viewAt, begun, moved, closed, mark}
 use Rattle.sessions.proofs.Ascents.{Rising, ascending-rising, rising-ascending, ascending-agree, ascending-less}
 use Rattle.sessions.proofs.Ascents.{count-below, count-past}
 

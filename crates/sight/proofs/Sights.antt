@@ -11,13 +11,13 @@ use lib.ListN.{getD}
 use borrow.Author.Tests.{eqb-true, eqb-false, eq-eqb, ne-eqb, leb-true, le-leb, lt-leb, ltb-true, lt-ltb, le-ltb, not-true}
 use Rattle.ground.specs.Range.{firstFrom}
 use Rattle.ground.proofs.Ranges.{lt-or-le, and-true-left, and-true-right, first-passes, first-before}
+use Rattle.columns.specs.Limits.{members}
 use Rattle.desk.specs.declared.View.{View}
-use Rattle.desk.specs.Desk.{members}
 use Rattle.status.specs.declared.Status.{Status}
 use Rattle.status.specs.declared.Status.the-variants.{InWork, Committed, Withdrawn, Reserved}
-use Rattle.status.specs.Status.{statusAt}
+use Rattle.status.specs.Status.{lastNumber, statusAt}
 use Rattle.sight.specs.declared.Stamp.{Stamp}
-use Rattle.sight.specs.Sight.{lastNumber, standing, isCommitted, committed, listed, sees, earlier, known, there}
+use Rattle.sight.specs.Sight.{standing, isCommitted, committed, listed, sees, earlier, known, there}
 
 -- ---- committed
 

@@ -5,20 +5,16 @@ use mathlib.Core.List.{List}
 use lib.Dec.{eqb, leb, ltb}
 use lib.ListN.{getD}
 use Rattle.ground.specs.Range.{firstFrom}
+use Rattle.columns.specs.Limits.{members}
 use Rattle.desk.specs.declared.View.{View}
-use Rattle.desk.specs.Desk.{members}
 use Rattle.status.specs.declared.Status.{Status}
 use Rattle.status.specs.declared.Status.the-variants.{InWork, Committed, Withdrawn, Reserved}
-use Rattle.status.specs.Status.{statusAt}
+use Rattle.status.specs.Status.{lastNumber, statusAt}
 use Rattle.sight.specs.declared.Stamp.{Stamp}
 
 -- a view by its parts
 abbrev pub viewOf : ℕ → ℕ → List ℕ → View
 viewOf number statement list = record { number = number; statement = statement; list = list }
-
--- the numbers that have a status: 1 to 32,575
-abbrev pub lastNumber : ℕ
-lastNumber = 32575
 
 -- the status of any number, in four ways: "Number 0 and numbers above 32,575 are never committed"
 unfoldable pub standing : ℕ → List ℕ → Status

@@ -1,5 +1,6 @@
 // Who sees what ("01, Sessions and sight"): the status of any number, "S sees X", and "a version is there for S". A version is known
 // here by its stamp alone, so that whatever carries one is seen by the same rule.
+use columns::Limits;
 use desk::Desk;
 use status::Status;
 use status::status_at;
@@ -16,15 +17,12 @@ pub struct Stamp {
     pub expire_cmd: u32,
 }
 
-// The highest number that has a status.
-pub const LAST_NUMBER: u64 = 32575;
-
 // The status of any number; 0 and numbers above 32,575, of which the page says nothing, count as in work.
 pub fn standing_of(status: &[u8], x: u64) -> Status
     requires { ⌜ length (now status) ≡ pageSize ⌝ }
     ensures { λ r. ⌜ r ≡ standing x (now (status .entry)) ⌝ }
 {
-    if (Desk::FIRST_NUMBER <= x) & (x <= LAST_NUMBER) {
+    if (Desk::FIRST_NUMBER <= x) & (x <= Status::LAST_NUMBER) {
         status_at(status, x as usize)
     } else {
         Status::InWork
@@ -49,7 +47,7 @@ fn is_listed(list: &[u64; 15], x: u64) -> bool
     ensures { λ r. ⌜ r ≡ listed x (now (list .entry)) ⌝ }
 {
     let mut i = 0;
-    while i < Desk::MEMBERS {
+    while i < Limits::MEMBERS {
         if list[i] == x {
             return true;
         }

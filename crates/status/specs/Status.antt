@@ -10,6 +10,10 @@ use Rattle.status.specs.declared.Status.the-variants.{InWork, Committed,
 abbrev pub numbersToPage : ℕ → ℕ
 numbersToPage page = (page - headerSize) * 4
 
+-- the numbers handed out are 1 to 32,575; number 0 has a place on the page all the same
+abbrev pub lastNumber : ℕ
+lastNumber = 32575
+
 -- "Status of number n: byte 48 + n/4 (whole division) of its page, shifted by (n mod 4) × 2"
 abbrev pub statusPlace : ℕ → ℕ → ℕ
 statusPlace page n = n / numbersToPage page * page + (headerSize + n % numbersToPage page / 4)

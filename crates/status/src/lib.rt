@@ -18,6 +18,9 @@ pub enum Status {
 }
 
 impl Status {
+    // The highest number that has a status: "numbers above 32,575 are never committed".
+    pub const LAST_NUMBER: u64 = 32575;
+
     // The two bits of a status, and the status of two bits: 00 in work, 01 committed, 10 withdrawn, 11 reserved.
     fn bits(self) -> u8
         ensures { λ r. ⌜ (r ≡ bitsOf self) × (r < 4) ⌝ }

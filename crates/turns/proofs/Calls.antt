@@ -5,16 +5,14 @@ use mathlib.Core.List.{List, [], _∷_}
 use Prim.Native.Nat.{ℕ, _<_, _≤_}
 use native.Mathlib.Omega.{arith}
 use lib.ListN.{length, getD}
-use lib.Seq.{sets}
 use lib.Dec.{eqb}
 use borrow.Author.Tests.{eq-eqb, ne-eqb}
-use Rattle.ground.specs.Refuse.{firstOf, settle}
-use Rattle.little.specs.Little.{digits}
 use Rattle.answer.specs.declared.Answer.{Answer}
 use Rattle.answer.specs.Code.{codeOf}
+use Rattle.places.specs.Open.{openCount, placeIn}
 use Rattle.desk.specs.declared.Desk.{Desk}
-use Rattle.desk.specs.Sound.{sound, openCount}
-use Rattle.desk.specs.Turns.{placeIn, isOpen, begun, moved, closed}
+use Rattle.desk.specs.Sound.{sound}
+use Rattle.desk.specs.Turns.{begun, moved, closed}
 use Rattle.kind.specs.Kind.{lengthsOk}
 use Rattle.kind.specs.Areas.{areas}
 use Rattle.kind.proofs.Lengths.{status-length}
@@ -115,8 +113,3 @@ module _ (d u s : List ℕ) (desk : Desk) where
       pub commit-0 : commitRule (areas d u s) desk x ≡ ((0, closed k desk), putStatus x Committed s)
       unfolding commitRule commitRefusal sound
       commit-0 = rw (a .passed .lengths, a .passed .sound, a .passed .opened) (ap (λ (i : ℕ). ((0, closed i desk), putStatus x Committed s)) (sym (a .passed .place)))
-
--- the two stores of begin on the status page
-pub begun-status : {y z : List ℕ} (n : ℕ) (s : List ℕ) → y ≡ putStatus n InWork s → z ≡ sets y 8 (digits 8 n) → z ≡ putField txnId 0 n (putStatus n InWork s)
-unfolding putField
-begun-status n s e q = q ∙ ap (λ (l : List ℕ). sets l 8 (digits 8 n)) e

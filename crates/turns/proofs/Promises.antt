@@ -6,11 +6,10 @@ use Prim.Native.Nat.{ℕ, zero, suc}
 use Rattle.ground.specs.Refuse.{settle}
 use Rattle.ground.specs.Does.{Does}
 use Rattle.ground.proofs.Once.{once}
-use Rattle.answer.specs.declared.Answer.{Answer}
-use Rattle.answer.specs.Code.{codeOf}
 use Rattle.answer.proofs.Codes.{codeOf-injective}
+use Rattle.places.specs.Open.{placeIn}
 use Rattle.desk.specs.declared.Desk.{Desk}
-use Rattle.desk.specs.Turns.{placeIn, begun, moved, closed}
+use Rattle.desk.specs.Turns.{begun, moved, closed}
 use Rattle.kind.specs.Areas.{Areas}
 use Rattle.page.specs.Header.{txnId, putField}
 use Rattle.status.specs.declared.Status.the-variants.{InWork, Committed}

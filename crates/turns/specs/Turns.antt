@@ -1,16 +1,18 @@
 -- The rules of begin, next statement and commit: what each answers, the desk, and what it leaves on the status page ("01, Sessions and
 -- sight", "01, When the desk says no"). Assumes nothing.
 use Prim.Native.Nat.{ℕ}
-use mathlib.Core.Bool.{Bool, not}
+use mathlib.Core.Bool.{not}
 use mathlib.Core.List.{List, [], _∷_}
 use lib.ListN.{getD}
 use lib.Dec.{eqb}
 use Rattle.ground.specs.Refuse.{firstOf, settle}
 use Rattle.answer.specs.Code.{codeOf}
+use Rattle.columns.specs.Limits.{sessions, lastStatement}
+use Rattle.places.specs.Open.{openCount, placeIn, isOpen}
 use Rattle.desk.specs.declared.Desk.{Desk}
-use Rattle.desk.specs.Desk.{sessions, lastNext, lastStatement}
-use Rattle.desk.specs.Sound.{sound, openCount}
-use Rattle.desk.specs.Turns.{placeIn, isOpen, begun, moved, closed}
+use Rattle.desk.specs.Desk.{lastNext}
+use Rattle.desk.specs.Sound.{sound}
+use Rattle.desk.specs.Turns.{begun, moved, closed}
 use Rattle.kind.specs.Areas.{Areas, badLength}
 use Rattle.page.specs.Header.{txnId, putField}
 use Rattle.status.specs.declared.Status.the-variants.{InWork, Committed}

@@ -2,6 +2,7 @@
 // all three areas and write the status page alone.
 use admit::Admitted;
 use answer::Answer;
+use columns::Limits;
 use desk::Desk;
 use status::Status;
 ghost use mathlib.Core.Path.{_≡_};
@@ -33,7 +34,7 @@ pub fn begin(data: &[u8], undo: &[u8], status: &mut [u8], desk: Desk) -> Begun
     if !desk::columns_sound(desk.next, &desk.numbers, &desk.statements, &desk.lists) {
         return no_session(Answer::Unsound, desk);
     }
-    if desk::open_count(&desk.numbers) == Desk::SESSIONS {
+    if places::open_count(&desk.numbers) == Limits::SESSIONS {
         return no_session(Answer::TooManyOpen, desk);
     }
     let number = desk.next;
@@ -41,7 +42,7 @@ pub fn begin(data: &[u8], undo: &[u8], status: &mut [u8], desk: Desk) -> Begun
         return no_session(Answer::NumbersUsed, desk);
     }
     status::put_status(status, number as usize, Status::InWork);
-    little::put8(status, 8, number);
+    page::header::put_txn_id(status, 0, number);
     Begun {
         answer: Answer::Done,
         number,
@@ -77,7 +78,7 @@ pub fn next(data: &[u8], undo: &[u8], status: &[u8], desk: Desk, session: u64) -
     match a {
         Admitted::Refused(answer) => Moved { answer, desk },
         Admitted::At(k) => {
-            if desk.statements[k] == Desk::LAST_STATEMENT {
+            if desk.statements[k] == Limits::LAST_STATEMENT {
                 return Moved {
                     answer: Answer::StatementsUsed,
                     desk,

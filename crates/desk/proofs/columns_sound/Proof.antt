@@ -4,8 +4,10 @@ use mathlib.Core.Bool.{_&&_, and-assoc}
 use mathlib.Core.Logic.{⊎-elim}
 use lib.Dec.{leb}
 use borrow.Author.Needs.{needs}
-use Rattle.desk.specs.Desk.{sessions, firstNumber, lastNext}
-use Rattle.desk.specs.Sound.{ascending, soundColumns}
+use Rattle.columns.specs.Limits.{sessions}
+use Rattle.places.specs.Places.{ascending}
+use Rattle.desk.specs.Desk.{firstNumber, lastNext}
+use Rattle.desk.specs.Sound.{soundColumns}
 use Rattle.desk.proofs.columns_sound.Statement.{statement}
 use Rattle.desk.proofs.columns_sound.Tie as tie
 

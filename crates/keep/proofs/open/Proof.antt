@@ -12,7 +12,7 @@ use Rattle.kind.specs.Kind.{lengthsOk}
 use Rattle.kind.specs.Areas.{Areas, areas}
 use Rattle.kind.proofs.Lengths.{all-lent}
 use Rattle.keep.specs.Whole.{highest, storeRight}
-use Rattle.keep.proofs.Pages.{highest-read, highest-storeRight}
+use Rattle.keep.proofs.Pages.{highest-storeRight}
 use Rattle.keep.proofs.Calls.{open-0, open-1, open-3}
 use Rattle.keep.proofs.open.Statement.{statement}
 use Rattle.keep.proofs.open.Tie as tie
@@ -28,8 +28,9 @@ good : (c : tie.Else1) → lengths (c .before .before .before .before .before) �
 good c = sym (c .before .lengths-ok .ensures) ∙ not-false _ (c .if1 .left)
 
 -- what was read is the highest number
-top : (c : tie.After-get8) → c .get8 .result ≡ highest (c .before .before .before .before .before .before .args .status .now)
-top c = c .get8 .ensures ∙ highest-read _
+top : (c : tie.After-txn-id) → c .txn-id .result ≡ highest (c .before .before .before .before .before .before .args .status .now)
+unfolding highest
+top c = c .txn-id .ensures
 
 -- where the pages and the numbers were found right
 abbrev store : tie.Start → Areas
@@ -47,8 +48,8 @@ refused-requires c κs = search needs
 returns : tie.Need-returns
 returns c = c .refused .ensures ∙ sym (open-1 _ _ _ (bad (c .before)))
 
-get8-requires : tie.Need-get8-requires
-get8-requires c κs = let l = all-lent _ _ _ (good c) in omega arith
+txn-id-requires : tie.Need-txn-id-requires
+txn-id-requires c κs = let l = all-lent _ _ _ (good c) in omega arith
 
 store-right-requires : tie.Need-store-right-requires
 store-right-requires c κs = let l = all-lent _ _ _ (good (c .before)) in (omega arith, omega arith, omega arith, top c)
@@ -81,7 +82,7 @@ open-spec =
     lengths-ok-requires
     refused-requires
     returns
-    get8-requires
+    txn-id-requires
     store-right-requires
     refused-requires-2
     returns-2

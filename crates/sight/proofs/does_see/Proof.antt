@@ -1,6 +1,6 @@
 -- `sight::does_see` meets its contract. Assumes nothing.
 use borrow.Author.Needs.{needs}
-use mathlib.Core.Path.{_≡_, sym, _∙_}
+use mathlib.Core.Path.{sym, _∙_}
 use borrow.Author.Tests.{le-ltb}
 use Rattle.sight.proofs.Sights.{sees-far, sees-open, sees-rest}
 use Rattle.sight.proofs.does_see.Statement.{statement}

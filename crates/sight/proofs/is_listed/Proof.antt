@@ -9,7 +9,7 @@ use lib.Dec.{eqb}
 use borrow.Author.Tests.{ne-eqb, le-ltb}
 use Rattle.ground.specs.Range.{firstFrom}
 use Rattle.ground.proofs.Ranges.{first-next, first-end}
-use Rattle.desk.specs.Desk.{members}
+use Rattle.columns.specs.Limits.{members}
 use Rattle.sight.specs.Sight.{listed}
 use Rattle.sight.proofs.Sights.{listed-intro}
 use Rattle.sight.proofs.is_listed.Statement.{statement}

@@ -1,6 +1,6 @@
 -- `sight::is_there` meets its contract. Assumes nothing.
 use borrow.Author.Needs.{needs}
-use mathlib.Core.Path.{_≡_, sym, _∙_}
+use mathlib.Core.Path.{sym, _∙_}
 use borrow.Author.Tests.{eq-eqb}
 use Rattle.sight.proofs.Sights.{there-unknown, there-unexpired, there-expired}
 use Rattle.sight.proofs.is_there.Statement.{statement}

@@ -1,17 +1,19 @@
 -- `turns::begin` meets its contract. Assumes nothing.
 use mathlib.Core.Path.{_≡_, refl, sym, ap, _∙_}
-use mathlib.Core.Bool.{Bool, true, false}
-use Prim.Native.Nat.{ℕ, _<_}
+use mathlib.Core.Bool.{Bool, true}
+use Prim.Native.Nat.{_<_}
 use native.Mathlib.Omega.{arith}
 use lib.ListN.{length}
 use borrow.Author.Tests.{not-true, not-false}
 use Rattle.ground.proofs.Once.{does-case}
+use Rattle.places.specs.Open.{openCount}
 use Rattle.desk.specs.declared.Desk.{Desk}
-use Rattle.desk.specs.Sound.{sound, openCount}
+use Rattle.desk.specs.Sound.{sound}
 use Rattle.sessions.proofs.Changes.{sound-parts}
+use Rattle.page.specs.Header.{txnId, putField}
 use Rattle.kind.specs.Kind.{lengthsOk}
 use Rattle.kind.proofs.Lengths.{status-length}
-use Rattle.turns.proofs.Calls.{begin-1, begin-2, begin-12, begin-13, begin-0, begun-status}
+use Rattle.turns.proofs.Calls.{begin-1, begin-2, begin-12, begin-13, begin-0}
 use borrow.Author.Needs.{needs}
 use Rattle.turns.proofs.begin.Statement.{statement}
 use Rattle.turns.proofs.begin.Tie as tie
@@ -82,8 +84,8 @@ returns-4 c =
 put-status-requires : tie.Need-put-status-requires
 put-status-requires c κs = (number (c .before), page (c .before))
 
-put8-requires : tie.Need-put8-requires
-put8-requires c κs = let put = c .before .before .before in omega (arith, put .put-status .kept .0, page (put .before .before))
+put-txn-id-requires : tie.Need-put-txn-id-requires
+put-txn-id-requires c κs = let put = c .before .before .before in omega (arith, put .put-status .kept .0, page (put .before .before))
 
 begin-requires : tie.Need-begin-requires
 begin-requires c κs =
@@ -103,7 +105,7 @@ returns-5 c =
     let found = here .before .before .before .before .before in
     does-case (begin-0 _ _ _ _ (good (found .before .before .before .before .before .before)) (fine found) (room (here .before)) (here .if4 .left))
     (ap (λ (d : Desk). (0, here .before .before .before .before .before .before .before .before .before .before .before .before .before .before .before .before .args .t4 .next, d)) (c .begin .ensures))
-    (begun-status _ _ (set .put-status .ensures) (put .put8 .ensures))
+    (put .put-txn-id .ensures ∙ ap (putField txnId 0 _) (set .put-status .ensures))
 
 pub begin-spec : {M : Type 1} → statement M
 begin-spec =
@@ -121,7 +123,7 @@ begin-spec =
     no-session-requires-4
     returns-4
     put-status-requires
-    put8-requires
+    put-txn-id-requires
     begin-requires
     same-length
     returns-5)

@@ -1,5 +1,5 @@
 -- `turns::commit` meets its contract: by what admission says. Assumes nothing.
-use mathlib.Core.Path.{_≡_, refl, sym, ap, _∙_}
+use mathlib.Core.Path.{refl, sym, ap, _∙_}
 use Rattle.ground.proofs.Once.{does-case}
 use Rattle.desk.specs.declared.Desk.{Desk}
 use Rattle.turns.proofs.Calls.{Admits, admits, admits-place, admits-session, admits-status, commit-refused, commit-0}

@@ -1,8 +1,6 @@
 -- `turns::next` meets its contract: by what admission says. Assumes nothing.
-use mathlib.Core.Path.{_≡_, sym, ap, _∙_}
-use Prim.Native.Nat.{ℕ}
+use mathlib.Core.Path.{sym, ap, _∙_}
 use native.Mathlib.Omega.{arith}
-use lib.ListN.{length, getD}
 use borrow.Author.Needs.{needs}
 use Rattle.desk.specs.declared.Desk.{Desk}
 use Rattle.turns.proofs.Calls.{Admits, admits, admits-place, admits-statement, next-refused, next-14, next-0}

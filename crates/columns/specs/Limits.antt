@@ -1,0 +1,13 @@
+-- The desk's limits ("01, Sessions and sight"). Assumes nothing.
+use Prim.Native.Nat.{ℕ}
+
+-- "at most 16 open sessions"; of each "the numbers open when it began: at most 15"
+abbrev pub sessions : ℕ
+sessions = 16
+
+abbrev pub members : ℕ
+members = 15
+
+-- "its statement (0 to 65,535)"
+abbrev pub lastStatement : ℕ
+lastStatement = 65535
