@@ -98,7 +98,7 @@ module _ (u : List ℕ) (r k : ℕ) where
       by true h = chainFrom-passed u r ps ptr e m to more h
       by false h = absurd (omega (arith, pigeons (entries u) (e ∷ ps) (h, d) (link-real u r ptr e m to .inside, b)))
 
-  more : (fuel : ℕ) (ps : List ℕ) (ptr : ℕ) → Distinct ps → Below (entries u) ps → fuel + length ps ≡ entries u
+  pub more : (fuel : ℕ) (ps : List ℕ) (ptr : ℕ) → Distinct ps → Below (entries u) ps → fuel + length ps ≡ entries u
       → chainFrom u r (fuel + k) ps ptr ≡ chainFrom u r fuel ps ptr
   more zero ps ptr d b s = rw zero-add (on (linkOf u r ptr) refl)
     where

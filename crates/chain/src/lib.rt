@@ -38,7 +38,7 @@ pub enum Link {
 
 // Follows a pointer: "A chain is broken at a pointer that isn't well formed, leads outside the area or between entries, leads to a
 // free entry, one of another row or one whose copy has create 0".
-fn follow(undo: &[u8], row: usize, ptr: u64) -> Link
+pub fn follow(undo: &[u8], row: usize, ptr: u64) -> Link
     ensures { λ r. ⌜ r ≡ linkOf (now (undo .entry)) row ptr ⌝ }
 {
     let lead = Pointer { raw: ptr }.lead(undo.len() / Kind::PAGE);
@@ -67,7 +67,7 @@ fn ended(l: Link) -> Walk
 }
 
 // What sight looks at in a slot or a slot copy.
-fn stamp_of(m: Slot) -> Stamp
+pub fn stamp_of(m: Slot) -> Stamp
     ensures { λ r. ⌜ r ≡ stampOf m ⌝ }
 {
     Stamp {

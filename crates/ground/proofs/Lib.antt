@@ -1,2 +1,3 @@
 pub mod Ranges
 pub mod Once
+pub mod Refusals

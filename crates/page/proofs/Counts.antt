@@ -34,7 +34,7 @@ unfolding counted putField
 counted-store k p s n h q = q ∙ ap (λ (v : ℕ). sets s (p * 8192 + 38) (digits 2 v)) (h ∙ ap (itemsIn k) (pageAt-lent p s))
 
 -- record i of page p is in use where its first 8 bytes, as record of the area, are not 0
-inUse-recordAt : {size count : ℕ} → Lie 8192 size count → 8 ≤ size → (p i : ℕ) (s : List ℕ) → i < count
+pub inUse-recordAt : {size count : ℕ} → Lie 8192 size count → 8 ≤ size → (p i : ℕ) (s : List ℕ) → i < count
     → inUse size (pageAt p s) i ≡ not (eqb (little (part 0 8 (recordAt 8192 size count (numberOf count p i) s))) 0)
 unfolding inUse pageAt recordAt
 inUse-recordAt {size} {count} lie wide p i s h =

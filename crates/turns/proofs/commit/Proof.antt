@@ -2,7 +2,8 @@
 use mathlib.Core.Path.{refl, sym, ap, _∙_}
 use Rattle.ground.proofs.Once.{does-case}
 use Rattle.desk.specs.declared.Desk.{Desk}
-use Rattle.turns.proofs.Calls.{Admits, admits, admits-place, admits-session, admits-status, commit-refused, commit-0}
+use Rattle.admit.proofs.Admissions.{Admits, admits, admits-place, admits-session, admits-status}
+use Rattle.turns.proofs.Calls.{commit-refused, commit-0}
 use borrow.Author.Needs.{needs}
 use Rattle.turns.proofs.commit.Statement.{statement}
 use Rattle.turns.proofs.commit.Tie as tie

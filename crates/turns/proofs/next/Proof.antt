@@ -3,7 +3,8 @@ use mathlib.Core.Path.{sym, ap, _∙_}
 use native.Mathlib.Omega.{arith}
 use borrow.Author.Needs.{needs}
 use Rattle.desk.specs.declared.Desk.{Desk}
-use Rattle.turns.proofs.Calls.{Admits, admits, admits-place, admits-statement, next-refused, next-14, next-0}
+use Rattle.admit.proofs.Admissions.{Admits, admits, admits-place, admits-statement}
+use Rattle.turns.proofs.Calls.{next-refused, next-14, next-0}
 use Rattle.turns.proofs.next.Statement.{statement}
 use Rattle.turns.proofs.next.Tie as tie
 

@@ -1,0 +1,34 @@
+-- Lists of refusals and what comes of a call: a line that holds is met whatever stands behind it, and where nothing is refused no line
+-- holds. Once, for the rules of all calls. Assumes nothing.
+use mathlib.Core.Path.{_≡_, refl, ap}
+use mathlib.Core.Bool.{Bool, true, false, cond}
+use mathlib.Core.List.{List, [], _∷_, _++_}
+use Prim.Native.Nat.{ℕ, zero, suc}
+use native.Mathlib.Omega.{arith}
+use Rattle.ground.specs.Refuse.{firstOf, settle}
+
+-- a line that holds is met before what stands behind the list
+pub firstOf-more : (ls rest : List (Bool × ℕ)) (k : ℕ) → firstOf ls ≡ suc k → firstOf (ls ++ rest) ≡ suc k
+firstOf-more [] rest k e = absurd (omega arith)
+firstOf-more (l ∷ ls) rest k e = by (l .0) e (firstOf-more ls rest k)
+  where
+    by : (b : Bool)
+        → cond b (l .1) (firstOf ls) ≡ suc k
+        → (firstOf ls ≡ suc k → firstOf (ls ++ rest) ≡ suc k)
+        → cond b (l .1) (firstOf (ls ++ rest)) ≡ suc k
+    by true e next = e
+    by false e next = next e
+
+-- where nothing is refused, the first line doesn't hold, and nothing behind it is refused
+pub firstOf-none : (b : Bool) (n m : ℕ) → (n ≡ 0 → ⊥) → cond b n m ≡ 0 → (b ≡ false) × (m ≡ 0)
+firstOf-none true n m some e = absurd (some e)
+firstOf-none false n m some e = (refl, e)
+
+module _ {A : Type 0} (done : A) (refused : ℕ → A) where
+  pub settle-refused : (n k : ℕ) → n ≡ suc k → settle n done refused ≡ refused (suc k)
+  settle-refused n k e = ap (λ (m : ℕ). settle m done refused) e
+
+  -- what holds of what is done, where nothing is refused, and of every refusal holds of the call
+  pub settled : (n : ℕ) (P : A → Type 0) → (n ≡ 0 → P done) → ((m : ℕ) → P (refused (suc m))) → P (settle n done refused)
+  settled zero P f g = f refl
+  settled (suc m) P f g = g m

@@ -1,0 +1,247 @@
+-- The rules of insert, update, delete and read, case by case. Assumes nothing.
+use mathlib.Core.Path.{_≡_, refl, sym, ap, _∙_}
+use mathlib.Core.Bool.{Bool, true, false, _||_}
+use mathlib.Core.List.{List, [], _∷_}
+use Prim.Native.Nat.{ℕ, zero, suc, _*_, _<_, _≤_, _^_}
+use native.Mathlib.Nat.{mul-le-mul}
+use native.Mathlib.Omega.{arith}
+use lib.ListN.{length, getD}
+use lib.Dec.{eqb}
+use borrow.Author.Tests.{eq-eqb, ne-eqb}
+use Rattle.ground.specs.Refuse.{firstOf, settle}
+use Rattle.answer.specs.declared.Answer.{Answer}
+use Rattle.answer.specs.Code.{codeOf}
+use Rattle.desk.specs.declared.Desk.{Desk}
+use Rattle.desk.specs.declared.View.{View}
+use Rattle.desk.specs.Turns.{viewAt}
+use Rattle.kind.specs.Kind.{rows, entries}
+use Rattle.kind.specs.Areas.{Areas, areas}
+use Rattle.chain.specs.declared.Place.{Place}
+use Rattle.chain.specs.declared.Place.the-variants.{Nowhere}
+use Rattle.chain.specs.Walk.{walkRule}
+use Rattle.admit.specs.declared.Admitted.the-variants.{Refused}
+use Rattle.admit.proofs.Admissions.{Admits, admission, refuses, goes-on, admits-at}
+use Rattle.vacant.specs.Vacant.{lowestEmpty, lowestFree}
+use Rattle.vacant.proofs.Vacants.{lowestEmpty-lt, lowestFree-lt}
+use Rattle.seeking.specs.declared.Sought.{Sought}
+use Rattle.seeking.specs.declared.Sought.the-variants.{Found, Refused as Unfound}
+use Rattle.seeking.specs.Seeking.{noRow, breaks, misses, says, seekRule, writeRefusal}
+use Rattle.seeking.proofs.Seekings.{reading, writing, seek-refused, seek-passed, seek-walk, write-refused, write-passed}
+use Rattle.writing.specs.Writing.{inserted, updatedData, updatedUndo, deleted}
+use Rattle.rows.specs.Rows.{viewIn, badBody, insertRefusal, insertRule, updateRefusal, updated, updateRule, deleteRefusal, deleteRule, seenBy, readRefusal, readRule}
+
+-- what the session at place k sees by, of the session admitted at k
+pub view-in : (d u s : List ℕ) (desk : Desk) (x k : ℕ) → Admits d u s desk x k → viewAt k desk ≡ viewIn desk x
+view-in d u s desk x k a = ap (λ (i : ℕ). viewAt i desk) (admits-at d u s desk x k a)
+
+-- ---- insert
+
+-- the row found lies in the area
+pub insert-inside : {r : ℕ} (d : List ℕ) → r ≡ lowestEmpty d → (r ≡ rows d → ⊥) → r < rows d
+insert-inside d is h =
+    let found : lowestEmpty d < rows d = lowestEmpty-lt d (λ (e : lowestEmpty d ≡ rows d). h (is ∙ e)) in
+    omega arith
+
+module _ (d u s : List ℕ) (desk : Desk) (x : ℕ) (body : List ℕ) where
+  abbrev insertRest : List (Bool × ℕ)
+  insertRest = (badBody body, 5) ∷ (eqb (lowestEmpty d) (rows d), 11) ∷ []
+
+  abbrev insertDone : View → (ℕ × ℕ) × List ℕ
+  insertDone v = ((0, lowestEmpty d), inserted x (v .statement) (lowestEmpty d) body d)
+
+  abbrev insertNo : ℕ → (ℕ × ℕ) × List ℕ
+  insertNo n = ((n, 0), d)
+
+  pub insert-refused : (n : Answer) → admission d u s desk x ≡ Refused n → insertRule (areas d u s) desk x body ≡ insertNo (codeOf n)
+  unfolding insertRule insertRefusal
+  insert-refused n e = refuses d u s desk x n insertRest (insertDone (viewIn desk x)) insertNo e
+
+  module _ (k : ℕ) (a : Admits d u s desk x k) where
+    insert-on : insertRule (areas d u s) desk x body ≡ settle (firstOf insertRest) (insertDone (viewIn desk x)) insertNo
+    unfolding insertRule insertRefusal
+    insert-on = goes-on d u s desk x k a insertRest (insertDone (viewIn desk x)) insertNo
+
+    pub insert-5 : (length body ≡ 32 → ⊥) → insertRule (areas d u s) desk x body ≡ insertNo 5
+    insert-5 h = insert-on ∙ rw (ne-eqb (length body) 32 h)
+
+    module _ (long : length body ≡ 32) where
+      pub insert-11 : {r : ℕ} → r ≡ lowestEmpty d → r ≡ rows d → insertRule (areas d u s) desk x body ≡ insertNo 11
+      insert-11 is h = insert-on ∙ rw (eq-eqb (length body) 32 long, eq-eqb (lowestEmpty d) (rows d) (sym is ∙ h))
+
+      pub insert-0 : {r : ℕ} {y : List ℕ} → r ≡ lowestEmpty d → (r ≡ rows d → ⊥) → y ≡ inserted x (getD (desk .statements) k 0) r body d
+          → insertRule (areas d u s) desk x body ≡ ((0, r), y)
+      unfolding viewAt
+      insert-0 {r} {y} is h put =
+          insert-on
+          ∙ rw (eq-eqb (length body) 32 long, ne-eqb (lowestEmpty d) (rows d) (λ (e : lowestEmpty d ≡ rows d). h (is ∙ e)))
+          (ap insertDone (sym (view-in d u s desk x k a))
+          ∙ ap (λ (i : ℕ). ((0, i), inserted x (viewAt k desk .statement) i body d)) (sym is)
+          ∙ ap (λ (l : List ℕ). ((0, r), l)) (sym put))
+
+-- ---- a write to a row: m is what was asked of it and answered
+
+module _ (d u s : List ℕ) (v : View) (r : ℕ) {A : Type 0} (rest : List (Bool × ℕ)) (done : A) (refused : ℕ → A) where
+  write-no : (m : ℕ) → writeRefusal d u s v r ≡ m → (m ≡ 0 → ⊥) → settle (firstOf (writing d u s v r rest)) done refused ≡ refused m
+  write-no zero e some = absurd (some refl)
+  write-no (suc m) e some = write-refused d u s v r m rest done refused e
+
+  write-on : writeRefusal d u s v r ≡ 0 → settle (firstOf (writing d u s v r rest)) done refused ≡ settle (firstOf rest) done refused
+  write-on e = ap (λ (m : ℕ). settle m done refused) (write-passed d u s v r e .passed rest)
+
+module _ (d u s : List ℕ) (desk : Desk) (x k : ℕ) (a : Admits d u s desk x k) (r : ℕ) {v : View} {m : ℕ} (seen : v ≡ viewAt k desk) (asked : m ≡ writeRefusal d u s v r) where
+  seen-in : v ≡ viewIn desk x
+  seen-in = seen ∙ view-in d u s desk x k a
+
+  asked-in : writeRefusal d u s (viewIn desk x) r ≡ m
+  asked-in = ap (λ (w : View). writeRefusal d u s w r) (sym seen-in) ∙ sym asked
+
+  pub write-inside : m ≡ 0 → r < rows d
+  write-inside h = write-passed d u s v r (sym asked ∙ h) .inside
+
+-- ---- delete
+
+module _ (d u s : List ℕ) (desk : Desk) (x r : ℕ) where
+  abbrev deleteRest : List (Bool × ℕ)
+  deleteRest = writing d u s (viewIn desk x) r []
+
+  abbrev deleteDone : View → ℕ × List ℕ
+  deleteDone v = (0, deleted x (v .statement) r d)
+
+  abbrev deleteNo : ℕ → ℕ × List ℕ
+  deleteNo n = (n, d)
+
+  pub delete-refused : (n : Answer) → admission d u s desk x ≡ Refused n → deleteRule (areas d u s) desk x r ≡ deleteNo (codeOf n)
+  unfolding deleteRule deleteRefusal
+  delete-refused n e = refuses d u s desk x n deleteRest (deleteDone (viewIn desk x)) deleteNo e
+
+  module _ (k : ℕ) (a : Admits d u s desk x k) where
+    delete-on : deleteRule (areas d u s) desk x r ≡ settle (firstOf deleteRest) (deleteDone (viewIn desk x)) deleteNo
+    unfolding deleteRule deleteRefusal
+    delete-on = goes-on d u s desk x k a deleteRest (deleteDone (viewIn desk x)) deleteNo
+
+    module _ {v : View} {m : ℕ} (seen : v ≡ viewAt k desk) (asked : m ≡ writeRefusal d u s v r) where
+      pub delete-no : (m ≡ 0 → ⊥) → deleteRule (areas d u s) desk x r ≡ deleteNo m
+      delete-no h = delete-on ∙ write-no d u s (viewIn desk x) r [] (deleteDone (viewIn desk x)) deleteNo m (asked-in d u s desk x k a r seen asked) h
+
+      pub delete-0 : m ≡ 0 → deleteRule (areas d u s) desk x r ≡ deleteDone v
+      delete-0 h =
+          delete-on
+          ∙ write-on d u s (viewIn desk x) r [] (deleteDone (viewIn desk x)) deleteNo (asked-in d u s desk x k a r seen asked ∙ h)
+          ∙ ap deleteDone (sym (seen-in d u s desk x k a r seen asked))
+
+-- ---- update
+
+or-false : (b : Bool) → b || false ≡ b
+or-false true = refl
+or-false false = refl
+
+or-true : (b : Bool) → b || true ≡ true
+or-true true = refl
+or-true false = refl
+
+-- the number of a record of the pages that may be lent is small
+pub small-number : {r n count : ℕ} → n ≤ 64 → count ≤ 127 → r < n * count → r < 2 ^ 32
+small-number {r} {n} {count} few most h = let m : n * count ≤ 64 * 127 = mul-le-mul few most in omega arith
+
+-- the entry found lies in the area
+pub update-inside : {e : ℕ} (u : List ℕ) → e ≡ lowestFree u → (e ≡ entries u → ⊥) → e < entries u
+update-inside u is h =
+    let found : lowestFree u < entries u = lowestFree-lt u (λ (q : lowestFree u ≡ entries u). h (is ∙ q)) in
+    omega arith
+
+module _ (d u s : List ℕ) (desk : Desk) (x r : ℕ) (body : List ℕ) where
+  abbrev room : List (Bool × ℕ)
+  room = (eqb (lowestFree u) (entries u), 11) ∷ []
+
+  -- behind 4, with what 5 asks as b
+  abbrev updateRest : Bool → List (Bool × ℕ)
+  updateRest b =
+      (b, 5)
+      ∷ (breaks d u s (viewIn desk x) r, 6)
+      ∷ (misses d u s (viewIn desk x) r, 7)
+      ∷ (says d s (viewIn desk x) r 8, 8)
+      ∷ (says d s (viewIn desk x) r 9, 9)
+      ∷ (says d s (viewIn desk x) r 10, 10)
+      ∷ room
+
+  abbrev updateDone : View → ℕ → ℕ × Areas
+  updateDone v e = (0, areas (updatedData x (v .statement) r e body d) (updatedUndo x (v .statement) r e d u) s)
+
+  abbrev updateNo : ℕ → ℕ × Areas
+  updateNo n = (n, areas d u s)
+
+  abbrev updateEnd : Bool → ℕ × Areas
+  updateEnd b = settle (firstOf (updateRest b)) (updateDone (viewIn desk x) (lowestFree u)) updateNo
+
+  pub update-refused : (n : Answer) → admission d u s desk x ≡ Refused n → updateRule (areas d u s) desk x r body ≡ updateNo (codeOf n)
+  unfolding updateRule updateRefusal updated
+  update-refused n e =
+      refuses d u s desk x n (updateRest (noRow d r || badBody body)) (updateDone (viewIn desk x) (lowestFree u)) updateNo e
+
+  module _ (k : ℕ) (a : Admits d u s desk x k) where
+    update-on : updateRule (areas d u s) desk x r body ≡ updateEnd (noRow d r || badBody body)
+    unfolding updateRule updateRefusal updated
+    update-on =
+        goes-on d u s desk x k a (updateRest (noRow d r || badBody body)) (updateDone (viewIn desk x) (lowestFree u)) updateNo
+
+    pub update-5 : (length body ≡ 32 → ⊥) → updateRule (areas d u s) desk x r body ≡ updateNo 5
+    update-5 h = update-on ∙ rw (ne-eqb (length body) 32 h, or-true (noRow d r))
+
+    module _ (long : length body ≡ 32) {v : View} {m : ℕ} (seen : v ≡ viewAt k desk) (asked : m ≡ writeRefusal d u s v r) where
+      update-asked : updateRule (areas d u s) desk x r body ≡ updateEnd (noRow d r)
+      update-asked = update-on ∙ rw (eq-eqb (length body) 32 long, or-false (noRow d r))
+
+      pub update-no : (m ≡ 0 → ⊥) → updateRule (areas d u s) desk x r body ≡ updateNo m
+      update-no h =
+          update-asked
+          ∙ write-no d u s (viewIn desk x) r room (updateDone (viewIn desk x) (lowestFree u)) updateNo m (asked-in d u s desk x k a r seen asked) h
+
+      module _ (h : m ≡ 0) {e : ℕ} (is : e ≡ lowestFree u) where
+        update-room : updateRule (areas d u s) desk x r body ≡ settle (firstOf room) (updateDone (viewIn desk x) (lowestFree u)) updateNo
+        update-room =
+            update-asked
+            ∙ write-on d u s (viewIn desk x) r room (updateDone (viewIn desk x) (lowestFree u)) updateNo (asked-in d u s desk x k a r seen asked ∙ h)
+
+        pub update-11 : e ≡ entries u → updateRule (areas d u s) desk x r body ≡ updateNo 11
+        update-11 full = update-room ∙ rw (eq-eqb (lowestFree u) (entries u) (sym is ∙ full))
+
+        pub update-0 : (e ≡ entries u → ⊥) → updateRule (areas d u s) desk x r body ≡ updateDone v e
+        update-0 some =
+            update-room
+            ∙ rw (ne-eqb (lowestFree u) (entries u) (λ (q : lowestFree u ≡ entries u). some (is ∙ q)))
+            (ap (λ (i : ℕ). updateDone (viewIn desk x) i) (sym is) ∙ ap (λ (w : View). updateDone w e) (sym (seen-in d u s desk x k a r seen asked)))
+
+-- ---- read
+
+module _ (d u s : List ℕ) (desk : Desk) (x r : ℕ) where
+  abbrev readRest : List (Bool × ℕ)
+  readRest = reading d u s (viewIn desk x) r []
+
+  abbrev readDone : ℕ × Place × ℕ
+  readDone = seenBy (walkRule d u s (viewIn desk x) r)
+
+  abbrev readNo : ℕ → ℕ × Place × ℕ
+  readNo n = (n, Nowhere, 0)
+
+  pub read-refused : (n : Answer) → admission d u s desk x ≡ Refused n → readRule (areas d u s) desk x r ≡ readNo (codeOf n)
+  unfolding readRule readRefusal
+  read-refused n e = refuses d u s desk x n readRest readDone readNo e
+
+  module _ (k : ℕ) (a : Admits d u s desk x k) {v : View} (seen : v ≡ viewAt k desk) where
+    read-on : readRule (areas d u s) desk x r ≡ settle (firstOf readRest) readDone readNo
+    unfolding readRule readRefusal
+    read-on = goes-on d u s desk x k a readRest readDone readNo
+
+    -- what the seek answered
+    sought-in : (q : Sought) → q ≡ seekRule d u s v r → seekRule d u s (viewIn desk x) r ≡ q
+    sought-in q e = ap (λ (w : View). seekRule d u s w r) (sym (seen ∙ view-in d u s desk x k a)) ∙ sym e
+
+    pub read-no : (n : Answer) → Unfound n ≡ seekRule d u s v r → readRule (areas d u s) desk x r ≡ readNo (codeOf n)
+    read-no n e = read-on ∙ seek-refused d u s (viewIn desk x) r n [] readDone readNo (sought-in (Unfound n) e)
+
+    pub read-0 : (place : Place) (n : ℕ) → Found place n ≡ seekRule d u s v r → readRule (areas d u s) desk x r ≡ (0, place, n)
+    read-0 place n e =
+        let found : seekRule d u s (viewIn desk x) r ≡ Found place n = sought-in (Found place n) e in
+        read-on
+        ∙ ap (λ (m : ℕ). settle m readDone readNo) (seek-passed d u s (viewIn desk x) r place n found [])
+        ∙ ap seenBy (seek-walk d u s (viewIn desk x) r place n found)

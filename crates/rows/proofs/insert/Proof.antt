@@ -1,0 +1,94 @@
+-- `rows::insert` meets its contract: by what admission says, then by the body and the room. Assumes nothing.
+use mathlib.Core.Path.{refl, sym, _∙_}
+use native.Mathlib.Omega.{arith}
+use lib.ListN.{length}
+use Rattle.ground.proofs.Once.{does-case}
+use Rattle.admit.proofs.Admissions.{Admits, admits, admits-place, admits-lent}
+use Rattle.rows.proofs.Calls.{insert-inside, insert-refused, insert-5, insert-11, insert-0}
+use borrow.Author.Needs.{needs}
+use Rattle.rows.proofs.insert.Statement.{statement}
+use Rattle.rows.proofs.insert.Tie as tie
+
+-- the session was admitted, at the place that admission gave
+admitted : (c : tie.After-known-told2)
+    → let start = c .before .before .before .before .before .before .before .before .before .before .before .before .args in
+    Admits (start .«data» .now) (start .undo .now) (start .status .now) (start .t4) (start .session) (c .before .a2 .given .0 .0)
+admitted c = admits _ _ _ _ _ _ (sym (c .before .before .before .admit .ensures) ∙ c .before .a2 .given .1)
+
+admit-requires : tie.Need-admit-requires
+admit-requires c κs = search needs
+
+enum-known-a : tie.Need-enum-known-a
+enum-known-a c = search needs
+
+enum-known-a-2 : tie.Need-enum-known-a-2
+enum-known-a-2 c = search needs
+
+returns : tie.Need-returns
+returns c = does-case (insert-5 _ _ _ _ _ _ _ (admitted (c .before)) (c .if1 .taken)) refl refl
+
+lowest-empty-requires : tie.Need-lowest-empty-requires
+lowest-empty-requires c κs = let few = admits-lent _ _ _ _ _ _ (admitted (c .before .before)) .inData .few in omega (arith, few)
+
+mul-if2 : tie.Need-mul-if2
+mul-if2 c = search needs
+
+same-length : tie.Need-same-length
+same-length c = search needs
+
+returns-2 : tie.Need-returns-2
+returns-2 c =
+    let found = c .before .before in
+    let long = found .before .before in
+    does-case (insert-11 _ _ _ _ _ _ _ (admitted (long .before)) (long .if1 .left) (found .lowest-empty .ensures) (c .if2 .taken)) refl refl
+
+mul-insert-at : tie.Need-mul-insert-at
+mul-insert-at c =
+    let k = admits-place _ _ _ _ _ _ (admitted (c .before .before .before .before .before .before)) in
+    search (needs, k)
+
+element-copy-out-insert-at : tie.Need-element-copy-out-insert-at
+element-copy-out-insert-at c = admits-place _ _ _ _ _ _ (admitted (c .before .before .before .before .before .before))
+
+insert-at-requires : tie.Need-insert-at-requires
+insert-at-requires c κs =
+    let full = c .before .before in
+    let found = full .before .before in
+    let long = found .before .before in
+    (insert-inside _ (found .lowest-empty .ensures) (full .if2 .left), long .if1 .left)
+
+returns-3 : tie.Need-returns-3
+returns-3 c = does-case (insert-refused _ _ _ _ _ _ _ (sym (c .before .before .before .admit .ensures) ∙ c .before .a .given .1)) refl refl
+
+same-length-2 : tie.Need-same-length-2
+same-length-2 c = search needs
+
+returns-4 : tie.Need-returns-4
+returns-4 c =
+    let put = c .before .before in
+    let full = put .before .before .before in
+    let found = full .before .before in
+    let long = found .before .before in
+    does-case
+    (insert-0 _ _ _ _ _ _ _ (admitted (long .before)) (long .if1 .left) (found .lowest-empty .ensures) (full .if2 .left) (put .insert-at .ensures))
+    refl
+    refl
+
+pub insert-spec : {M : Type 1} → statement M
+insert-spec =
+    tie.close
+    (tie.spec
+    admit-requires
+    enum-known-a
+    enum-known-a-2
+    returns
+    lowest-empty-requires
+    mul-if2
+    same-length
+    returns-2
+    mul-insert-at
+    element-copy-out-insert-at
+    insert-at-requires
+    returns-3
+    same-length-2
+    returns-4)

@@ -1,0 +1,77 @@
+-- `rows::read` meets its contract: by what admission says, then by what the seek found. Assumes nothing.
+use mathlib.Core.Path.{sym, _∙_}
+use Rattle.admit.proofs.Admissions.{Admits, admits, admits-place, admits-status}
+use Rattle.rows.proofs.Calls.{read-refused, read-no, read-0}
+use borrow.Author.Needs.{needs}
+use Rattle.rows.proofs.read.Statement.{statement}
+use Rattle.rows.proofs.read.Tie as tie
+
+-- the session was admitted, at the place that admission gave
+admitted : (c : tie.After-known-told2)
+    → let start = c .before .before .before .before .before .before .before .before .before .before .before .args in
+    Admits (start .«data» .now) (start .undo .now) (start .status .now) (start .t4) (start .session) (c .before .a2 .given .0 .0)
+admitted c = admits _ _ _ _ _ _ (sym (c .before .before .before .admit .ensures) ∙ c .before .a2 .given .1)
+
+admit-requires : tie.Need-admit-requires
+admit-requires c κs = search needs
+
+enum-known-a : tie.Need-enum-known-a
+enum-known-a c = search needs
+
+unseen-requires : tie.Need-unseen-requires
+unseen-requires c κs = search needs
+
+enum-known-a-2 : tie.Need-enum-known-a-2
+enum-known-a-2 c = search needs
+
+view-requires : tie.Need-view-requires
+view-requires c κs = admits-place _ _ _ _ _ _ (admitted c)
+
+seek-requires : tie.Need-seek-requires
+seek-requires c κs = admits-status _ _ _ _ _ _ (admitted (c .before .before .before))
+
+enum-known-sought : tie.Need-enum-known-sought
+enum-known-sought c = search needs
+
+unseen-requires-2 : tie.Need-unseen-requires-2
+unseen-requires-2 c κs = search needs
+
+enum-known-sought-2 : tie.Need-enum-known-sought-2
+enum-known-sought-2 c = search needs
+
+returns : tie.Need-returns
+returns c =
+    let told = c .before .before in
+    c .unseen .ensures ∙ sym (read-refused _ _ _ _ _ _ _ (sym (told .before .before .admit .ensures) ∙ told .a .given .1))
+
+returns-2 : tie.Need-returns-2
+returns-2 c =
+    let told = c .before .before in
+    let seek = told .before .before in
+    let view = seek .before .before .before in
+    c .unseen2 .ensures
+    ∙ sym (read-no _ _ _ _ _ _ _ (admitted (view .before)) (view .view .ensures) _ (sym (told .sought .given .1) ∙ seek .seek .ensures))
+
+returns-3 : tie.Need-returns-3
+returns-3 c =
+    let told = c .before in
+    let seek = told .before .before in
+    let view = seek .before .before .before in
+    sym (read-0 _ _ _ _ _ _ _ (admitted (view .before)) (view .view .ensures) _ _ (sym (told .sought2 .given .1) ∙ seek .seek .ensures))
+
+pub read-spec : {M : Type 1} → statement M
+read-spec =
+    tie.close
+    (tie.spec
+    admit-requires
+    enum-known-a
+    unseen-requires
+    enum-known-a-2
+    view-requires
+    seek-requires
+    enum-known-sought
+    unseen-requires-2
+    enum-known-sought-2
+    returns
+    returns-2
+    returns-3)

@@ -1,0 +1,219 @@
+// Insert, update, delete and read ("01, Writes, withdrawal, sweep", "01, When the desk says no"). Areas that a call never writes are
+// lent as they are. None of the four changes the desk, so none hands one back.
+use admit::Admitted;
+use answer::Answer;
+use chain::Place;
+use desk::Desk;
+use kind::Kind;
+use seeking::Sought;
+ghost use mathlib.Core.Path.{_≡_};
+ghost use Rattle.ground.specs.Does.{Does};
+ghost use Rattle.answer.specs.Code.{codeOf};
+ghost use Rattle.kind.specs.Areas.{areas};
+ghost use Rattle.chain.specs.declared.Place.the-variants.{Nowhere};
+ghost use Rattle.rows.specs.Rows.{saidInserted, saidSeen, insertRule, updateRule, deleteRule, readRule};
+
+// What insert answers: the row, 0 where it refuses.
+pub struct Inserted {
+    pub answer: Answer,
+    pub row: usize,
+}
+
+// What read answers: where the version lies, for `chain::body`, and how many versions were looked at; nowhere and 0 where it refuses.
+pub struct Seen {
+    pub answer: Answer,
+    pub place: Place,
+    pub looked: usize,
+}
+
+// "a body of 32 bytes"
+const BODY: usize = 32;
+
+// Makes a new row in the lowest empty slot.
+pub fn insert(
+    data: &mut [u8],
+    undo: &[u8],
+    status: &[u8],
+    desk: Desk,
+    session: u64,
+    body: &[u8],
+) -> Inserted
+    ensures { λ r. ⌜ Does (insertRule (areas (now («data» .entry)) (now (undo .entry)) (now (status .entry))) desk session (now (body .entry))) (saidInserted r) (now («data» .exit)) ⌝ }
+{
+    let a = admit::admit(
+        data.len(),
+        undo.len(),
+        status.len(),
+        desk.next,
+        &desk.numbers,
+        &desk.statements,
+        &desk.lists,
+        session,
+    );
+    match a {
+        Admitted::Refused(answer) => Inserted { answer, row: 0 },
+        Admitted::At(k) => {
+            if body.len() != BODY {
+                return Inserted {
+                    answer: Answer::BadArgument,
+                    row: 0,
+                };
+            }
+            let row = vacant::lowest_empty(data);
+            if row == data.len() / Kind::PAGE * Kind::DATA.count {
+                return Inserted {
+                    answer: Answer::NoRoom,
+                    row: 0,
+                };
+            }
+            writing::insert_at(data, row, session, desk.statements[k], body);
+            Inserted {
+                answer: Answer::Done,
+                row,
+            }
+        }
+    }
+}
+
+// Replaces the row's version by a new one, and keeps the old one in the lowest free entry.
+pub fn update(
+    data: &mut [u8],
+    undo: &mut [u8],
+    status: &[u8],
+    desk: Desk,
+    session: u64,
+    row: usize,
+    body: &[u8],
+) -> Answer
+    ensures { λ r. ⌜ Does (updateRule (areas (now («data» .entry)) (now (undo .entry)) (now (status .entry))) desk session row (now (body .entry))) (codeOf r) (areas (now («data» .exit)) (now (undo .exit)) (now (status .exit))) ⌝ }
+{
+    let a = admit::admit(
+        data.len(),
+        undo.len(),
+        status.len(),
+        desk.next,
+        &desk.numbers,
+        &desk.statements,
+        &desk.lists,
+        session,
+    );
+    match a {
+        Admitted::Refused(answer) => answer,
+        Admitted::At(k) => {
+            if body.len() != BODY {
+                return Answer::BadArgument;
+            }
+            let v = desk.view(k);
+            let refusal = seeking::may_write(
+                data,
+                undo,
+                status,
+                v.number,
+                v.statement,
+                &v.list,
+                row,
+            );
+            if answer::code(refusal) != 0 {
+                return refusal;
+            }
+            let e = vacant::lowest_free(undo);
+            if e == undo.len() / Kind::PAGE * Kind::UNDO.count {
+                return Answer::NoRoom;
+            }
+            writing::update_at(data, undo, row, e, session, v.statement, body);
+            Answer::Done
+        }
+    }
+}
+
+// Ends the row's version.
+pub fn delete<'a>(
+    data: &mut [u8],
+    undo: &'a [u8],
+    status: &'a [u8],
+    desk: Desk,
+    session: u64,
+    row: usize,
+) -> Answer
+    ensures { λ r. ⌜ Does (deleteRule (areas (now («data» .entry)) (now (undo .entry)) (now (status .entry))) desk session row) (codeOf r) (now («data» .exit)) ⌝ }
+{
+    let a = admit::admit(
+        data.len(),
+        undo.len(),
+        status.len(),
+        desk.next,
+        &desk.numbers,
+        &desk.statements,
+        &desk.lists,
+        session,
+    );
+    match a {
+        Admitted::Refused(answer) => answer,
+        Admitted::At(k) => {
+            let v = desk.view(k);
+            let refusal = seeking::may_write(
+                data,
+                undo,
+                status,
+                v.number,
+                v.statement,
+                &v.list,
+                row,
+            );
+            if answer::code(refusal) != 0 {
+                return refusal;
+            }
+            writing::delete_at(data, row, session, v.statement);
+            Answer::Done
+        }
+    }
+}
+
+// Finds the version that the session reads. `chain::body` hands its body back where it lies.
+pub fn read<'a>(
+    data: &'a [u8],
+    undo: &'a [u8],
+    status: &'a [u8],
+    desk: Desk,
+    session: u64,
+    row: usize,
+) -> Seen
+    ensures { λ r. ⌜ saidSeen r ≡ readRule (areas (now («data» .entry)) (now (undo .entry)) (now (status .entry))) desk session row ⌝ }
+{
+    let a = admit::admit(
+        data.len(),
+        undo.len(),
+        status.len(),
+        desk.next,
+        &desk.numbers,
+        &desk.statements,
+        &desk.lists,
+        session,
+    );
+    match a {
+        Admitted::Refused(answer) => unseen(answer),
+        Admitted::At(k) => {
+            let v = desk.view(k);
+            let sought = seeking::seek(data, undo, status, v.number, v.statement, &v.list, row);
+            match sought {
+                Sought::Refused(answer) => unseen(answer),
+                Sought::Found(at, looked) => Seen {
+                    answer: Answer::Done,
+                    place: at,
+                    looked,
+                },
+            }
+        }
+    }
+}
+
+// A refused read: no version, and none counted.
+fn unseen(answer: Answer) -> Seen
+    ensures { λ r. ⌜ saidSeen r ≡ (codeOf answer, Nowhere, 0) ⌝ }
+{
+    Seen {
+        answer,
+        place: Place::Nowhere,
+        looked: 0,
+    }
+}

@@ -1,0 +1,72 @@
+-- What read, update and delete ask of a row ("01, When the desk says no", 5 to 10). The conditions stand here once; a call's list of
+-- refusals names them. Assumes nothing.
+use Prim.Native.Nat.{ℕ}
+use mathlib.Core.Bool.{Bool, true, false, cond}
+use mathlib.Core.List.{List, [], _∷_}
+use lib.Dec.{eqb, leb}
+use Rattle.ground.specs.Refuse.{firstOf}
+use Rattle.answer.specs.declared.Answer.{Answer}
+use Rattle.answer.specs.declared.Answer.the-variants.{Done, BadArgument, Broken, NotThere}
+use Rattle.kind.specs.Kind.{rows}
+use Rattle.desk.specs.declared.View.{View}
+use Rattle.sight.specs.Conflict.{conflictOf}
+use Rattle.records.specs.Slot.{slotAt}
+use Rattle.chain.specs.declared.Walk.{Walk}
+use Rattle.chain.specs.declared.Walk.the-variants.{Found as At, Absent, Broken as Break}
+use Rattle.chain.specs.Walk.{stampOf, walkRule}
+use Rattle.seeking.specs.declared.Sought.{Sought}
+use Rattle.seeking.specs.declared.Sought.the-variants.{Found, Refused}
+
+-- 5: "row ≥ rows"
+unfoldable pub noRow : List ℕ → ℕ → Bool
+noRow d r = leb (rows d) r
+
+-- 6: "broken chain met before a version is found"
+abbrev pub isBroken : Walk → Bool
+isBroken (At place n) = false
+isBroken Absent = false
+isBroken Break = true
+
+unfoldable pub breaks : List ℕ → List ℕ → List ℕ → View → ℕ → Bool
+breaks d u s v r = isBroken (walkRule d u s v r)
+
+-- 7: "no version there"
+abbrev pub isAbsent : Walk → Bool
+isAbsent (At place n) = false
+isAbsent Absent = true
+isAbsent Break = false
+
+unfoldable pub misses : List ℕ → List ℕ → List ℕ → View → ℕ → Bool
+misses d u s v r = isAbsent (walkRule d u s v r)
+
+-- 8 to 10: "look at the slot"; the slot says number n
+unfoldable pub says : List ℕ → List ℕ → View → ℕ → ℕ → Bool
+says d s v r n = eqb (conflictOf v s (stampOf (slotAt r d))) n
+
+-- ---- as the functions answer
+
+-- what a walk without a version refuses
+abbrev pub unfound : Walk → Answer
+unfound (At place n) = Done
+unfound Absent = NotThere
+unfound Break = Broken
+
+abbrev pub soughtBy : Walk → Sought
+soughtBy (At place n) = Found place n
+soughtBy Absent = Refused NotThere
+soughtBy Break = Refused Broken
+
+unfoldable pub seekRule : List ℕ → List ℕ → List ℕ → View → ℕ → Sought
+seekRule d u s v r = cond (noRow d r) (Refused BadArgument) (soughtBy (walkRule d u s v r))
+
+-- what may be refused to a session that would write a row, in the order of the table
+unfoldable pub writeRefusal : List ℕ → List ℕ → List ℕ → View → ℕ → ℕ
+writeRefusal d u s v r =
+    firstOf
+    ((noRow d r, 5)
+    ∷ (breaks d u s v r, 6)
+    ∷ (misses d u s v r, 7)
+    ∷ (says d s v r 8, 8)
+    ∷ (says d s v r 9, 9)
+    ∷ (says d s v r 10, 10)
+    ∷ [])

@@ -1,0 +1,153 @@
+-- The laws of writes that touch: what was put is read, other records and other pages are as they were, and so is the length. Callers
+-- cite these and unfold nothing. Assumes nothing.
+use mathlib.Core.Path.{_≡_, refl, ap, _∙_}
+use mathlib.Core.List.{List}
+use Prim.Native.Nat.{ℕ, _/_, _<_}
+use native.Mathlib.Omega.{arith}
+use lib.ListN.{length}
+use Rattle.little.specs.Little.{part}
+use Rattle.kind.specs.declared.Kind.{Kind}
+use Rattle.kind.specs.Kind.{rows, entries, dataKind, undoKind}
+use Rattle.kind.specs.Place.{recordAt}
+use Rattle.kind.proofs.Places.{Lie, Within, within-other, within-page, length-within}
+use Rattle.records.specs.declared.slot.Slot.{Slot}
+use Rattle.records.specs.declared.entry.Entry.{Entry}
+use Rattle.records.specs.Slot.{slotOf, slotAt, bodyAt, putSlot, putMeta}
+use Rattle.records.specs.Entry.{entryOf, entryAt, copyBodyAt, putEntry}
+use Rattle.records.proofs.Slots.{SlotFit, slots-lie, putSlot-within, putMeta-within, slotAt-putSlot-same, bodyAt-putSlot-same, slotAt-putMeta-same, bodyAt-putMeta-same}
+use Rattle.records.proofs.Entries.{EntryFit, entries-lie, putEntry-within, entryAt-putEntry-same, copyBodyAt-putEntry-same}
+use Rattle.page.specs.Header.{pageAt, txnId, itemCount}
+use Rattle.page.specs.Count.{itemsIn, counted, touched}
+use Rattle.page.proofs.Headers.{pageAt-putField-other}
+use Rattle.page.proofs.Counts.{length-touched, recordAt-touched, slotAt-touched, bodyAt-touched, entryAt-touched, copyBodyAt-touched}
+use Rattle.touching.specs.Touching.{withSlot, withMeta, withEntry}
+
+-- ---- what the functions compute: y is the area written, z the area touched
+
+pub withSlot-stored : {y z : List ℕ} (txn r : ℕ) (m : Slot) (body d : List ℕ)
+    → y ≡ putSlot r m body d
+    → z ≡ touched dataKind (r / 127) txn y
+    → z ≡ withSlot txn r m body d
+unfolding withSlot
+withSlot-stored txn r m body d e h = h ∙ ap (touched dataKind (r / 127) txn) e
+
+pub withMeta-stored : {y z : List ℕ} (txn r : ℕ) (m : Slot) (d : List ℕ)
+    → y ≡ putMeta r m d
+    → z ≡ touched dataKind (r / 127) txn y
+    → z ≡ withMeta txn r m d
+unfolding withMeta
+withMeta-stored txn r m d e h = h ∙ ap (touched dataKind (r / 127) txn) e
+
+pub withEntry-stored : {y z : List ℕ} (txn e : ℕ) (m : Entry) (body u : List ℕ)
+    → y ≡ putEntry e m body u
+    → z ≡ touched undoKind (e / 101) txn y
+    → z ≡ withEntry txn e m body u
+unfolding withEntry
+withEntry-stored txn e m body u p h = h ∙ ap (touched undoKind (e / 101) txn) p
+
+-- ---- what is left as it was: said once, over the record size, of any store inside a record whose page is then touched
+
+pub record Written (size count r : ℕ) (s z : List ℕ) : Type 0 where
+  pub stored : List ℕ
+  pub kind : Kind
+  pub txn : ℕ
+  pub within : Within 8192 size count r s stored
+  pub is : z ≡ touched kind (r / count) txn stored
+
+-- touching writes in the header of its page, and in no other page
+pageAt-touched-other : (k : Kind) (p q txn : ℕ) (s : List ℕ) → (q ≡ p → ⊥) → pageAt q (touched k p txn s) ≡ pageAt q s
+unfolding touched counted
+pageAt-touched-other k p q txn s ne =
+    pageAt-putField-other txnId p q txn (counted k p s) (omega arith) ne
+    ∙ pageAt-putField-other itemCount p q (itemsIn k (pageAt p s)) s (omega arith) ne
+
+module _ {size count r : ℕ} {s z : List ℕ} (lie : Lie 8192 size count) (w : Written size count r s z) where
+  pub length-written : length z ≡ length s
+  length-written =
+      ap length (w .is) ∙ length-touched (w .kind) (r / count) (w .txn) (w .stored) ∙ length-within lie (w .within)
+
+  -- another record
+  record-other : (t : ℕ) → (t ≡ r → ⊥) → recordAt 8192 size count t z ≡ recordAt 8192 size count t s
+  record-other t ne =
+      ap (recordAt 8192 size count t) (w .is)
+      ∙ recordAt-touched lie (w .kind) (r / count) t (w .stored) (w .txn)
+      ∙ within-other lie (w .within) t ne
+
+  -- "is touched": a page that is not keeps every byte
+  pub pageAt-written-other : (p : ℕ) → (p ≡ r / count → ⊥) → pageAt p z ≡ pageAt p s
+  unfolding pageAt
+  pageAt-written-other p ne =
+      ap (pageAt p) (w .is)
+      ∙ pageAt-touched-other (w .kind) (r / count) p (w .txn) (w .stored) ne
+      ∙ within-page lie (w .within) p ne
+
+abbrev pub WrittenSlot : ℕ → List ℕ → List ℕ → Type 0
+WrittenSlot = Written 64 127
+
+abbrev pub WrittenEntry : ℕ → List ℕ → List ℕ → Type 0
+WrittenEntry = Written 80 101
+
+-- another row is as it was
+module _ {r : ℕ} {d y : List ℕ} (w : WrittenSlot r d y) (t : ℕ) (ne : t ≡ r → ⊥) where
+  pub slotAt-written-other : slotAt t y ≡ slotAt t d
+  unfolding slotAt
+  slotAt-written-other = ap slotOf (record-other slots-lie w t ne)
+
+  pub bodyAt-written-other : bodyAt t y ≡ bodyAt t d
+  unfolding bodyAt
+  bodyAt-written-other = ap (part 32 32) (record-other slots-lie w t ne)
+
+-- another entry is as it was
+module _ {e : ℕ} {u y : List ℕ} (w : WrittenEntry e u y) (t : ℕ) (ne : t ≡ e → ⊥) where
+  pub entryAt-written-other : entryAt t y ≡ entryAt t u
+  unfolding entryAt
+  entryAt-written-other = ap entryOf (record-other entries-lie w t ne)
+
+  pub copyBodyAt-written-other : copyBodyAt t y ≡ copyBodyAt t u
+  unfolding copyBodyAt
+  copyBodyAt-written-other = ap (part 48 32) (record-other entries-lie w t ne)
+
+-- ---- the three writes are such stores, and what was put is read
+
+module _ (txn r : ℕ) (m : Slot) (body d : List ℕ) (long : length body ≡ 32) where
+  pub withSlot-written : WrittenSlot r d (withSlot txn r m body d)
+  unfolding withSlot
+  withSlot-written =
+      record { stored = putSlot r m body d; kind = dataKind; txn = txn; within = putSlot-within r m body d long; is = refl }
+
+  pub slotAt-withSlot : r < rows d → SlotFit m → slotAt r (withSlot txn r m body d) ≡ m
+  unfolding withSlot
+  slotAt-withSlot row fit = slotAt-touched dataKind (r / 127) r (putSlot r m body d) txn ∙ slotAt-putSlot-same r m body d row long fit
+
+  pub bodyAt-withSlot : r < rows d → bodyAt r (withSlot txn r m body d) ≡ body
+  unfolding withSlot
+  bodyAt-withSlot row = bodyAt-touched dataKind (r / 127) r (putSlot r m body d) txn ∙ bodyAt-putSlot-same r m body d row long
+
+module _ (txn r : ℕ) (m : Slot) (d : List ℕ) where
+  pub withMeta-written : WrittenSlot r d (withMeta txn r m d)
+  unfolding withMeta
+  withMeta-written =
+      record { stored = putMeta r m d; kind = dataKind; txn = txn; within = putMeta-within r m d; is = refl }
+
+  pub slotAt-withMeta : r < rows d → SlotFit m → slotAt r (withMeta txn r m d) ≡ m
+  unfolding withMeta
+  slotAt-withMeta row fit = slotAt-touched dataKind (r / 127) r (putMeta r m d) txn ∙ slotAt-putMeta-same r m d row fit
+
+  -- the body is as it was
+  pub bodyAt-withMeta : r < rows d → bodyAt r (withMeta txn r m d) ≡ bodyAt r d
+  unfolding withMeta
+  bodyAt-withMeta row = bodyAt-touched dataKind (r / 127) r (putMeta r m d) txn ∙ bodyAt-putMeta-same r m d row
+
+module _ (txn e : ℕ) (m : Entry) (body u : List ℕ) (long : length body ≡ 32) where
+  pub withEntry-written : WrittenEntry e u (withEntry txn e m body u)
+  unfolding withEntry
+  withEntry-written =
+      record { stored = putEntry e m body u; kind = undoKind; txn = txn; within = putEntry-within e m body u long; is = refl }
+
+  pub entryAt-withEntry : e < entries u → EntryFit m → entryAt e (withEntry txn e m body u) ≡ m
+  unfolding withEntry
+  entryAt-withEntry here fit = entryAt-touched undoKind (e / 101) e (putEntry e m body u) txn ∙ entryAt-putEntry-same e m body u here long fit
+
+  pub copyBodyAt-withEntry : e < entries u → copyBodyAt e (withEntry txn e m body u) ≡ body
+  unfolding withEntry
+  copyBodyAt-withEntry here = copyBodyAt-touched undoKind (e / 101) e (putEntry e m body u) txn ∙ copyBodyAt-putEntry-same e m body u here long

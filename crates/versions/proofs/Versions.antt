@@ -1,0 +1,397 @@
+-- What insert, update and delete do to chains ("01, Writes, withdrawal, sweep"): the row's own chain gets a version, or its first one
+-- ends; every other chain is as it was; whole chains stay whole. Assumes nothing.
+use mathlib.Core.Path.{_≡_, refl, sym, ap, subst, _∙_}
+use mathlib.Core.Bool.{Bool, true, false, _||_, cond}
+use mathlib.Core.List.{List, [], _∷_}
+use Prim.Native.Nat.{ℕ, zero, suc, _+_, _-_, _/_, _*_, _<_, _^_}
+use native.Mathlib.Omega.{arith}
+use lib.ListN.{length}
+use lib.Dec.{eqb}
+use borrow.Author.Tests.{eqb-true, eqb-false, eq-eqb, ne-eqb}
+use Rattle.little.specs.Little.{Bytes}
+use Rattle.little.proofs.Parts.{length-part}
+use Rattle.little.proofs.AllBytes.{bytes-part, little-part-below}
+use Rattle.kind.specs.Kind.{pages, rows, entries}
+use Rattle.kind.specs.Place.{recordAt}
+use Rattle.pointer.specs.declared.Lead.{Lead}
+use Rattle.pointer.specs.declared.Lead.the-variants.{Nowhere as None, Entry as ToEntry, Astray}
+use Rattle.pointer.specs.Pointer.{leadOf, pointerTo}
+use Rattle.pointer.proofs.PointerLaws.{leadOf-pointerTo, leadOf-zero, pointerTo-below}
+use Rattle.records.specs.declared.slot.Slot.{Slot}
+use Rattle.records.specs.declared.entry.Entry.{Entry}
+use Rattle.records.specs.Slot.{slotOf, slotPlace, slotBytes, slotAt, bodyAt}
+use Rattle.records.specs.Entry.{entryAt}
+use Rattle.records.proofs.Slots.{SlotFit, slots-lie, slot-inside}
+use Rattle.records.proofs.Entries.{entries-lie}
+use Rattle.chain.specs.declared.Place.the-variants.{Data, Undo}
+use Rattle.chain.specs.declared.Link.{Link}
+use Rattle.chain.specs.declared.Link.the-variants.{End, Break, To}
+use Rattle.chain.specs.Chain.{Chain, ended, onto, among, unfit, chainFrom, chainOf, linkAt, linkOf}
+use Rattle.chain.proofs.Chains.{copyOf, chainFrom-end, chainFrom-break, chainFrom-passed, chainFrom-on, chainFrom-full}
+use Rattle.chain.proofs.Enough.{more}
+use Rattle.touching.proofs.Touchings.{WrittenEntry, length-written, slotAt-written-other, entryAt-written-other, withSlot-written, slotAt-withSlot, withMeta-written, slotAt-withMeta, withEntry-written, entryAt-withEntry}
+use Rattle.writing.specs.Writing.{made, expired, kept, inserted, updatedUndo, updatedData, deleted}
+use Rattle.versions.specs.Versions.{older, AllWhole, Fits, Takes}
+
+true-false : true ≡ false → ⊥
+true-false e = let z : _≡_ {A = ℕ} 0 1 = cc in omega arith
+
+-- ---- chains depend on the areas through slots and links only
+
+module _ (u u' : List ℕ) (t : ℕ) (same : (ptr : ℕ) → linkOf u' t ptr ≡ linkOf u t ptr) where
+  pub chainFrom-agree : (fuel : ℕ) (ps : List ℕ) (ptr : ℕ) → chainFrom u' t fuel ps ptr ≡ chainFrom u t fuel ps ptr
+  chainFrom-agree zero ps ptr = on (linkOf u t ptr) refl
+    where
+      on : (l : Link) → linkOf u t ptr ≡ l → chainFrom u' t zero ps ptr ≡ chainFrom u t zero ps ptr
+      on End h = chainFrom-end u' t zero ps ptr (same ptr ∙ h) ∙ sym (chainFrom-end u t zero ps ptr h)
+      on Break h = chainFrom-break u' t zero ps ptr (same ptr ∙ h) ∙ sym (chainFrom-break u t zero ps ptr h)
+      on (To e m) h = chainFrom-full u' t ps ptr e m (same ptr ∙ h) ∙ sym (chainFrom-full u t ps ptr e m h)
+  chainFrom-agree (suc fuel) ps ptr = on (linkOf u t ptr) refl (λ e m. chainFrom-agree fuel (e ∷ ps) (m .copy .«undo_ptr»))
+    where
+      on : (l : Link) → linkOf u t ptr ≡ l
+          → ((e : ℕ) (m : Entry) → chainFrom u' t fuel (e ∷ ps) (m .copy .«undo_ptr») ≡ chainFrom u t fuel (e ∷ ps) (m .copy .«undo_ptr»))
+          → chainFrom u' t (suc fuel) ps ptr ≡ chainFrom u t (suc fuel) ps ptr
+      on End h g = chainFrom-end u' t (suc fuel) ps ptr (same ptr ∙ h) ∙ sym (chainFrom-end u t (suc fuel) ps ptr h)
+      on Break h g = chainFrom-break u' t (suc fuel) ps ptr (same ptr ∙ h) ∙ sym (chainFrom-break u t (suc fuel) ps ptr h)
+      on (To e m) h g = by (among e ps) refl
+        where
+          by : (b : Bool) → among e ps ≡ b → chainFrom u' t (suc fuel) ps ptr ≡ chainFrom u t (suc fuel) ps ptr
+          by true p = chainFrom-passed u' t ps ptr e m (same ptr ∙ h) (suc fuel) p ∙ sym (chainFrom-passed u t ps ptr e m h (suc fuel) p)
+          by false p =
+              chainFrom-on u' t ps ptr e m (same ptr ∙ h) fuel p
+              ∙ ap (onto (copyOf e m)) (g e m)
+              ∙ sym (chainFrom-on u t ps ptr e m h fuel p)
+
+  pub chainOf-agree : (d d' : List ℕ) → entries u' ≡ entries u → slotAt t d' ≡ slotAt t d → chainOf d' u' t ≡ chainOf d u t
+  unfolding chainOf
+  chainOf-agree d d' size slot =
+      ap (λ (m : Slot). cond (eqb (m .create) 0) (ended true) (onto (record { place = Data t; slot = m }) (chainFrom u' t (entries u') [] (m .«undo_ptr»)))) slot
+      ∙ ap (λ (c : Chain). cond (eqb (slotAt t d .create) 0) (ended true) (onto (record { place = Data t; slot = slotAt t d }) c))
+      (ap (λ (n : ℕ). chainFrom u' t n [] (slotAt t d .«undo_ptr»)) size
+      ∙ chainFrom-agree (entries u) [] (slotAt t d .«undo_ptr»))
+
+-- the chain of an occupied row: its slot, and what is older
+module _ (d u : List ℕ) (r : ℕ) (m : Slot) (is : slotAt r d ≡ m) (used : m .create ≡ 0 → ⊥) where
+  chainOf-used : chainOf d u r ≡ onto (record { place = Data r; slot = m }) (chainFrom u r (entries u) [] (m .«undo_ptr»))
+  unfolding chainOf
+  chainOf-used =
+      ap (λ (x : Slot). cond (eqb (x .create) 0) (ended true) (onto (record { place = Data r; slot = x }) (chainFrom u r (entries u) [] (x .«undo_ptr»)))) is
+      ∙ ap (λ (b : Bool). cond b (ended true) (onto (record { place = Data r; slot = m }) (chainFrom u r (entries u) [] (m .«undo_ptr»)))) (ne-eqb (m .create) 0 used)
+
+  older-used : older (chainOf d u r) ≡ chainFrom u r (entries u) [] (m .«undo_ptr»)
+  older-used = ap older chainOf-used
+
+-- so its first version is its slot
+pub chainOf-first : (d u : List ℕ) (r : ℕ) → (slotAt r d .create ≡ 0 → ⊥)
+    → chainOf d u r ≡ onto (record { place = Data r; slot = slotAt r d }) (older (chainOf d u r))
+chainOf-first d u r used =
+    chainOf-used d u r (slotAt r d) refl used
+    ∙ ap (onto (record { place = Data r; slot = slotAt r d })) (sym (older-used d u r (slotAt r d) refl used))
+
+-- ---- what is written fits its fields
+
+fit-slot : (m : Slot) → m .create < 2 ^ 64 → m .expire < 2 ^ 64 → m .«undo_ptr» < 2 ^ 64 → m .cmd < 2 ^ 32 → m .«expire_cmd» < 2 ^ 32 → SlotFit m
+fit-slot m a b p x y = (a, (b, (p, (x, (y, tt)))))
+
+-- what is read from bytes does
+slotAt-fit : (r : ℕ) (d : List ℕ) → Bytes d → r < rows d → SlotFit (slotAt r d)
+unfolding slotAt slotOf recordAt
+slotAt-fit r d b h =
+    let own : Bytes (slotBytes r d) = bytes-part (slotPlace r) 64 d b in
+    let long : length (slotBytes r d) ≡ 64 = length-part (slotPlace r) 64 d (slot-inside r d h) in
+    fit-slot (slotAt r d)
+    (little-part-below 0 8 (slotBytes r d) own (omega arith))
+    (little-part-below 8 8 (slotBytes r d) own (omega arith))
+    (little-part-below 16 8 (slotBytes r d) own (omega arith))
+    (little-part-below 24 4 (slotBytes r d) own (omega arith))
+    (little-part-below 28 4 (slotBytes r d) own (omega arith))
+
+module _ {n c r : ℕ} {d : List ℕ} (f : Fits n c r d) where
+  made-fit : (ptr : ℕ) → ptr < 2 ^ 64 → SlotFit (made n c ptr)
+  made-fit ptr h = fit-slot (made n c ptr) (f .number) (omega arith) h (f .statement) (omega arith)
+
+  expired-fit : SlotFit (expired n c (slotAt r d))
+  expired-fit =
+      let old : SlotFit (slotAt r d) = slotAt-fit r d (f .bytes) (f .row) in
+      fit-slot (expired n c (slotAt r d)) (old .0) (f .number) (old .1 .1 .0) (old .1 .1 .1 .0) (f .statement)
+
+  number-some : n ≡ 0 → ⊥
+  number-some z = omega (arith, f .some)
+
+-- ---- whole chains stay whole: r is the row written
+
+whole-after : (d d' u u' : List ℕ) (r : ℕ) → length d' ≡ length d
+    → ((t : ℕ) → (t ≡ r → ⊥) → chainOf d' u' t ≡ chainOf d u t)
+    → chainOf d' u' r .whole ≡ true
+    → AllWhole d u
+    → AllWhole d' u'
+whole-after d d' u u' r long other own all t h = by (eqb t r) refl
+  where
+    by : (b : Bool) → eqb t r ≡ b → chainOf d' u' t .whole ≡ true
+    by true k = subst (λ (x : ℕ). chainOf d' u' x .whole ≡ true) (sym (eqb-true t r k)) own
+    by false k =
+        let inside : t < rows d = subst (λ (x : ℕ). t < x / 8192 * 127) long h in
+        ap (λ (x : Chain). x .whole) (other t (eqb-false t r k)) ∙ all t inside
+
+-- ---- insert: "create = S, cmd = its statement, other metadata 0"
+
+module _ (n c r : ℕ) (body d u : List ℕ) (long : length body ≡ 32) where
+  pub chainOf-inserted-other : (t : ℕ) → (t ≡ r → ⊥) → chainOf (inserted n c r body d) u t ≡ chainOf d u t
+  unfolding inserted
+  chainOf-inserted-other t ne =
+      chainOf-agree u u t (λ ptr. refl) d (inserted n c r body d) refl (slotAt-written-other (withSlot-written n r (made n c 0) body d long) t ne)
+
+  module _ (f : Fits n c r d) where
+    -- the one new version, whole. That the row was empty is no premise: nothing of what it held is left
+    pub chainOf-inserted-own : chainOf (inserted n c r body d) u r ≡ onto (record { place = Data r; slot = made n c 0 }) (ended true)
+    unfolding inserted linkOf
+    chainOf-inserted-own =
+        chainOf-used (inserted n c r body d) u r (made n c 0)
+        (slotAt-withSlot n r (made n c 0) body d long (f .row) (made-fit f 0 (omega arith)))
+        (number-some f)
+        ∙ ap (onto (record { place = Data r; slot = made n c 0 })) (chainFrom-end u r (entries u) [] 0 (ap (linkAt u r) (leadOf-zero (pages u))))
+
+    pub whole-inserted : AllWhole d u → AllWhole (inserted n c r body d) u
+    unfolding inserted
+    whole-inserted =
+        whole-after d (inserted n c r body d) u u r (length-written slots-lie (withSlot-written n r (made n c 0) body d long))
+        chainOf-inserted-other
+        (ap (λ (x : Chain). x .whole) chainOf-inserted-own)
+
+-- ---- delete: "sets expire and expire_cmd"
+
+module _ (n c r : ℕ) (d u : List ℕ) where
+  pub chainOf-deleted-other : (t : ℕ) → (t ≡ r → ⊥) → chainOf (deleted n c r d) u t ≡ chainOf d u t
+  unfolding deleted
+  chainOf-deleted-other t ne =
+      chainOf-agree u u t (λ ptr. refl) d (deleted n c r d) refl (slotAt-written-other (withMeta-written n r (expired n c (slotAt r d)) d) t ne)
+
+  module _ (f : Fits n c r d) (used : slotAt r d .create ≡ 0 → ⊥) where
+    -- the first version has its expirer, and what is older is as it was
+    pub chainOf-deleted-own : chainOf (deleted n c r d) u r ≡ onto (record { place = Data r; slot = expired n c (slotAt r d) }) (older (chainOf d u r))
+    unfolding deleted
+    chainOf-deleted-own =
+        chainOf-used (deleted n c r d) u r (expired n c (slotAt r d))
+        (slotAt-withMeta n r (expired n c (slotAt r d)) d (f .row) (expired-fit f))
+        used
+        ∙ ap (onto (record { place = Data r; slot = expired n c (slotAt r d) })) (sym (older-used d u r (slotAt r d) refl used))
+
+    pub whole-deleted : AllWhole d u → AllWhole (deleted n c r d) u
+    unfolding deleted
+    whole-deleted all =
+        whole-after d (deleted n c r d) u u r (length-written slots-lie (withMeta-written n r (expired n c (slotAt r d)) d))
+        chainOf-deleted-other
+        (ap (λ (x : Chain). x .whole) chainOf-deleted-own ∙ all r (f .row))
+        all
+
+-- ---- update: a free entry is taken
+
+unfit-free : (t : ℕ) (m : Entry) → m .writer ≡ 0 → unfit t m ≡ true
+unfolding unfit
+unfit-free t m h = rw (eq-eqb (m .writer) 0 h)
+
+unfit-other : (t : ℕ) (m : Entry) → (m .row ≡ t → ⊥) → unfit t m ≡ true
+unfolding unfit
+unfit-other t m ne = rw (ne-eqb (m .row) t ne) (by (eqb (m .writer) 0))
+  where
+    by : (b : Bool) → ((b || true) || eqb (m .copy .create) 0) ≡ true
+    by true = refl
+    by false = refl
+
+unfit-none : (t : ℕ) (m : Entry) → (m .writer ≡ 0 → ⊥) → m .row ≡ t → (m .copy .create ≡ 0 → ⊥) → unfit t m ≡ false
+unfolding unfit
+unfit-none t m w e k = rw (ne-eqb (m .writer) 0 w, eq-eqb (m .row) t e, ne-eqb (m .copy .create) 0 k)
+
+broken : (x : Chain) → x ≡ ended false → x .whole ≡ true → ⊥
+broken x h w = true-false (sym w ∙ ap (λ (y : Chain). y .whole) h)
+
+-- u' is u with entry e, which was free, taken for row r
+record Taken (r e : ℕ) (u u' : List ℕ) : Type 0 where
+  pub size : pages u' ≡ pages u
+  pub free : entryAt e u .writer ≡ 0
+  pub row : entryAt e u' .row ≡ r
+  pub others : (q : ℕ) → (q ≡ e → ⊥) → entryAt q u' ≡ entryAt q u
+
+module _ {r e : ℕ} {u u' : List ℕ} (k : Taken r e u u') where
+  -- before, a pointer to e breaks its chain, because e is free; afterwards it breaks the chain of another row, because e is row r's
+  free-break : (t : ℕ) → linkAt u t (ToEntry e) ≡ Break
+  free-break t = ap (λ (b : Bool). cond b Break (To e (entryAt e u))) (unfit-free t (entryAt e u) (k .free))
+
+  other-break : (t : ℕ) → (t ≡ r → ⊥) → linkAt u' t (ToEntry e) ≡ Break
+  other-break t ne = ap (λ (b : Bool). cond b Break (To e (entryAt e u'))) (unfit-other t (entryAt e u') (λ z. ne (sym z ∙ k .row)))
+
+  -- any other link is as it was
+  lead-agree : (t : ℕ) (l : Lead) → (l ≡ ToEntry e → linkAt u' t (ToEntry e) ≡ linkAt u t (ToEntry e)) → linkAt u' t l ≡ linkAt u t l
+  lead-agree t None f = refl
+  lead-agree t Astray f = refl
+  lead-agree t (ToEntry q) f = by (eqb q e) refl
+    where
+      by : (b : Bool) → eqb q e ≡ b → linkAt u' t (ToEntry q) ≡ linkAt u t (ToEntry q)
+      by true h =
+          let same : q ≡ e = eqb-true q e h in
+          subst (λ (x : ℕ). linkAt u' t (ToEntry x) ≡ linkAt u t (ToEntry x)) (sym same) (f (ap ToEntry same))
+      by false h = ap (λ (m : Entry). cond (unfit t m) Break (To q m)) (k .others q (eqb-false q e h))
+
+  link-agree : (t ptr : ℕ) → (leadOf (pages u) ptr ≡ ToEntry e → linkAt u' t (ToEntry e) ≡ linkAt u t (ToEntry e)) → linkOf u' t ptr ≡ linkOf u t ptr
+  unfolding linkOf
+  link-agree t ptr f = ap (λ (n : ℕ). linkAt u' t (leadOf n ptr)) (k .size) ∙ lead-agree t (leadOf (pages u) ptr) f
+
+  link-other : (t : ℕ) → (t ≡ r → ⊥) → (ptr : ℕ) → linkOf u' t ptr ≡ linkOf u t ptr
+  link-other t ne ptr = link-agree t ptr (λ h. other-break t ne ∙ sym (free-break t))
+
+  -- a link that is no break does not lead to e
+  link-met : (t ptr : ℕ) → (linkOf u t ptr ≡ Break → ⊥) → linkOf u' t ptr ≡ linkOf u t ptr
+  unfolding linkOf
+  link-met t ptr goes = link-agree t ptr (λ h. absurd (goes (ap (linkAt u t) h ∙ free-break t)))
+
+  link-apart : (t ptr q : ℕ) (m : Entry) → linkOf u t ptr ≡ To q m → q ≡ e → ⊥
+  unfolding linkOf
+  link-apart t ptr q m h same = by (leadOf (pages u) ptr) h
+    where
+      fit : (p : ℕ) (b : Bool) → unfit t (entryAt p u) ≡ b → cond b Break (To p (entryAt p u)) ≡ To q m → ⊥
+      fit p true g l = let z : _≡_ {A = ℕ} 0 1 = cc in omega arith
+      fit p false g l =
+          let to : p ≡ q = cc in
+          true-false (sym (unfit-free t (entryAt p u) (ap (λ (x : ℕ). entryAt x u .writer) (to ∙ same) ∙ k .free)) ∙ g)
+
+      by : (l : Lead) → linkAt u t l ≡ To q m → ⊥
+      by None l = let z : _≡_ {A = ℕ} 0 1 = cc in omega arith
+      by Astray l = let z : _≡_ {A = ℕ} 0 1 = cc in omega arith
+      by (ToEntry p) l = fit p (unfit t (entryAt p u)) refl l
+
+  -- a whole chain never meets e, so it is the same chain where e is taken and counts as passed: ps are the entries passed in u, qs
+  -- those passed in u'
+  module _ (t : ℕ) where
+    same-end : (fuel : ℕ) (ps qs : List ℕ) (ptr : ℕ) → linkOf u t ptr ≡ End → chainFrom u' t fuel qs ptr ≡ chainFrom u t fuel ps ptr
+    same-end fuel ps qs ptr h = chainFrom-end u' t fuel qs ptr (link-met t ptr goes ∙ h) ∙ sym (chainFrom-end u t fuel ps ptr h)
+      where
+        goes : linkOf u t ptr ≡ Break → ⊥
+        goes l = let z : _≡_ {A = ℕ} 0 1 = cc in omega arith
+
+    same-chain : (fuel : ℕ) (ps qs : List ℕ) (ptr : ℕ)
+        → ((q : ℕ) → (q ≡ e → ⊥) → among q qs ≡ among q ps)
+        → chainFrom u t fuel ps ptr .whole ≡ true
+        → chainFrom u' t fuel qs ptr ≡ chainFrom u t fuel ps ptr
+    unfolding among
+    same-chain zero ps qs ptr s w = on (linkOf u t ptr) refl
+      where
+        on : (l : Link) → linkOf u t ptr ≡ l → chainFrom u' t zero qs ptr ≡ chainFrom u t zero ps ptr
+        on End h = same-end zero ps qs ptr h
+        on Break h = absurd (broken (chainFrom u t zero ps ptr) (chainFrom-break u t zero ps ptr h) w)
+        on (To q m) h = absurd (broken (chainFrom u t zero ps ptr) (chainFrom-full u t ps ptr q m h) w)
+    same-chain (suc fuel) ps qs ptr s w = on (linkOf u t ptr) refl (λ q m. same-chain fuel (q ∷ ps) (q ∷ qs) (m .copy .«undo_ptr»))
+      where
+        more-passed : (p q : ℕ) → (q ≡ e → ⊥) → among q (p ∷ qs) ≡ among q (p ∷ ps)
+        more-passed p q ne = ap (λ (b : Bool). eqb q p || b) (s q ne)
+
+        on : (l : Link) → linkOf u t ptr ≡ l
+            → ((q : ℕ) (m : Entry) → ((x : ℕ) → (x ≡ e → ⊥) → among x (q ∷ qs) ≡ among x (q ∷ ps))
+            → chainFrom u t fuel (q ∷ ps) (m .copy .«undo_ptr») .whole ≡ true
+            → chainFrom u' t fuel (q ∷ qs) (m .copy .«undo_ptr») ≡ chainFrom u t fuel (q ∷ ps) (m .copy .«undo_ptr»))
+            → chainFrom u' t (suc fuel) qs ptr ≡ chainFrom u t (suc fuel) ps ptr
+        on End h g = same-end (suc fuel) ps qs ptr h
+        on Break h g = absurd (broken (chainFrom u t (suc fuel) ps ptr) (chainFrom-break u t (suc fuel) ps ptr h) w)
+        on (To q m) h g = by (among q ps) refl
+          where
+            goes : linkOf u t ptr ≡ Break → ⊥
+            goes l = let z : _≡_ {A = ℕ} 0 1 = cc in omega arith
+
+            by : (b : Bool) → among q ps ≡ b → chainFrom u' t (suc fuel) qs ptr ≡ chainFrom u t (suc fuel) ps ptr
+            by true p = absurd (broken (chainFrom u t (suc fuel) ps ptr) (chainFrom-passed u t ps ptr q m h (suc fuel) p) w)
+            by false p =
+                let on-u : chainFrom u t (suc fuel) ps ptr ≡ onto (copyOf q m) (chainFrom u t fuel (q ∷ ps) (m .copy .«undo_ptr»)) =
+                chainFrom-on u t ps ptr q m h fuel p
+                in
+                chainFrom-on u' t qs ptr q m (link-met t ptr goes ∙ h) fuel (s q (link-apart t ptr q m h) ∙ p)
+                ∙ ap (onto (copyOf q m)) (g q m (more-passed q) (sym (ap (λ (x : Chain). x .whole) on-u) ∙ w))
+                ∙ sym on-u
+
+length-body : (r : ℕ) (d : List ℕ) → r < rows d → length (bodyAt r d) ≡ 32
+unfolding bodyAt recordAt
+length-body r d h =
+    length-part 32 32 (slotBytes r d) (omega (arith, length-part (slotPlace r) 64 d (slot-inside r d h)))
+
+-- "The slot then has create = S, expire 0, a pointer to the entry": data' and undo' are what update leaves
+module _ (n c r e : ℕ) (body d u : List ℕ) (f : Fits n c r d) (g : Takes r e u) (long : length body ≡ 32) where
+  abbrev entry : Entry
+  entry = kept n c r (slotAt r d)
+
+  abbrev slot : Slot
+  slot = made n c (pointerTo e)
+
+  abbrev data' : List ℕ
+  data' = updatedData n c r e body d
+
+  abbrev undo' : List ℕ
+  undo' = updatedUndo n c r e d u
+
+  entry-is : entryAt e undo' ≡ entry
+  unfolding updatedUndo
+  entry-is = entryAt-withEntry n e entry (bodyAt r d) u (length-body r d (f .row)) (g .here) (f .number, (g .row, (omega arith, expired-fit f)))
+
+  slot-is : slotAt r data' ≡ slot
+  unfolding updatedData
+  slot-is = slotAt-withSlot n r slot body d long (f .row) (made-fit f (pointerTo e) (pointerTo-below e (g .entry)))
+
+  taken : Taken r e u undo'
+  unfolding updatedUndo
+  taken =
+      let w : WrittenEntry e u undo' = withEntry-written n e entry (bodyAt r d) u (length-body r d (f .row)) in
+      record {
+        size = ap (λ (x : ℕ). x / 8192) (length-written entries-lie w);
+        free = g .free;
+        row = ap (λ (m : Entry). m .row) entry-is;
+        others = entryAt-written-other w;
+      }
+
+  entries-same : entries undo' ≡ entries u
+  entries-same = ap (λ (x : ℕ). x * 101) (taken .size)
+
+  -- this asks for no wholeness: a chain of another row that led to e was broken there, because e was free, and is broken there still,
+  -- because e is now row r's
+  pub chainOf-updated-other : (t : ℕ) → (t ≡ r → ⊥) → chainOf (updatedData n c r e body d) (updatedUndo n c r e d u) t ≡ chainOf d u t
+  unfolding updatedData
+  chainOf-updated-other t ne =
+      chainOf-agree u undo' t (link-other taken t ne) d data' entries-same (slotAt-written-other (withSlot-written n r slot body d long) t ne)
+
+  module _ (used : slotAt r d .create ≡ 0 → ⊥) where
+    -- the new slot leads to the copy
+    link-copy : linkOf undo' r (pointerTo e) ≡ To e entry
+    unfolding linkOf
+    link-copy =
+        ap (λ (x : ℕ). linkAt undo' r (leadOf x (pointerTo e))) (taken .size)
+        ∙ ap (linkAt undo' r) (leadOf-pointerTo (pages u) e (g .here) (g .few))
+        ∙ ap (λ (m : Entry). cond (unfit r m) Break (To e m)) entry-is
+        ∙ ap (λ (b : Bool). cond b Break (To e entry)) (unfit-none r entry (number-some f) refl used)
+
+    module _ (whole : chainOf d u r .whole ≡ true) where
+      -- and the copy to what was older; there is one entry fewer to pass, which is fuel enough, since e was passed
+      behind-copy : chainFrom undo' r (entries u - 1) (e ∷ []) (slotAt r d .«undo_ptr») ≡ older (chainOf d u r)
+      unfolding among
+      behind-copy =
+          let ptr : ℕ = slotAt r d .«undo_ptr» in
+          let was : older (chainOf d u r) ≡ chainFrom u r (entries u) [] ptr = older-used d u r (slotAt r d) refl used in
+          let all : entries u - 1 + 1 ≡ entries u = omega (arith, g .here) in
+          sym (more undo' r 1 (entries u - 1) (e ∷ []) ptr (refl, tt) (omega (arith, g .here, entries-same), tt) (omega (arith, entries-same)))
+          ∙ ap (λ (x : ℕ). chainFrom undo' r x (e ∷ []) ptr) all
+          ∙ same-chain taken r (entries u) [] (e ∷ []) ptr (λ q ne. ap (λ (b : Bool). b || false) (ne-eqb q e ne)) (sym (ap (λ (x : Chain). x .whole) was) ∙ whole)
+          ∙ sym was
+
+      pub chainOf-updated-own : chainOf (updatedData n c r e body d) (updatedUndo n c r e d u) r
+          ≡ onto (record { place = Data r; slot = made n c (pointerTo e) })
+          (onto (record { place = Undo e; slot = expired n c (slotAt r d) }) (older (chainOf d u r)))
+      unfolding among
+      chainOf-updated-own =
+          let size : entries undo' ≡ suc (entries u - 1) = omega (arith, g .here, entries-same) in
+          chainOf-used data' undo' r slot slot-is (number-some f)
+          ∙ ap (onto (record { place = Data r; slot = slot }))
+          (ap (λ (x : ℕ). chainFrom undo' r x [] (pointerTo e)) size
+          ∙ chainFrom-on undo' r [] (pointerTo e) e entry link-copy (entries u - 1) refl
+          ∙ ap (onto (copyOf e entry)) behind-copy)
+
+    pub whole-updated : AllWhole d u → AllWhole (updatedData n c r e body d) (updatedUndo n c r e d u)
+    unfolding updatedData
+    whole-updated all =
+        whole-after d data' u undo' r (length-written slots-lie (withSlot-written n r slot body d long)) chainOf-updated-other
+        (ap (λ (x : Chain). x .whole) (chainOf-updated-own (all r (f .row))) ∙ all r (f .row))
+        all
