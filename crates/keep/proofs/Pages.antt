@@ -15,9 +15,9 @@ use Rattle.kind.specs.Kind.{dataKind, undoKind, statusKind}
 use Rattle.kind.specs.Areas.{areas}
 use Rattle.page.specs.Header.{pageAt}
 use Rattle.status.specs.Status.{statusAt}
-use Rattle.page.specs.Whole.{pageRight, sealedPage, freshPage}
+use Rattle.whole.specs.Whole.{pageRight, sealedPage, freshPage}
 use Rattle.page.proofs.Headers.{pageAt-lent}
-use Rattle.page.proofs.Rights.{length-freshPage}
+use Rattle.whole.proofs.Rights.{length-freshPage}
 use Rattle.keep.specs.Whole.{freshArea, sealedArea, areaRight, highest, ended, allEnded, storeRight}
 
 -- ---- fresh

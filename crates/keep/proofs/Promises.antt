@@ -30,10 +30,10 @@ use Rattle.kind.specs.Kind.{pages, dataKind, undoKind, statusKind, lengthsOk}
 use Rattle.kind.specs.Areas.{Areas, badLength}
 use Rattle.page.specs.Header.{pageAt, txnId, fieldIn}
 use Rattle.status.specs.Status.{statusAt}
-use Rattle.page.specs.Whole.{checksumOf, pageRight, headerRight, sealedPage, freshPage}
+use Rattle.whole.specs.Whole.{checksumOf, pageRight, headerRight, sealedPage, freshPage}
 use Rattle.kind.proofs.Lengths.{Lent, AllLent, all-lent}
 use Rattle.page.proofs.Headers.{length-pageAt, bytes-pageAt, pageAt-append, pageAt-behind}
-use Rattle.page.proofs.Rights.{Fitting, fitting-data, fitting-undo, fitting-status, length-sealedPage, statusAt-sealedPage, txnId-sealedPage, pageAt-sealedPage-same, pageAt-sealedPage-other, pageRight-sealed, length-freshPage, txnId-freshPage, pageRight-freshPage}
+use Rattle.whole.proofs.Rights.{Fitting, fitting-data, fitting-undo, fitting-status, length-sealedPage, statusAt-sealedPage, txnId-sealedPage, pageAt-sealedPage-same, pageAt-sealedPage-other, pageRight-sealed, length-freshPage, txnId-freshPage, pageRight-freshPage}
 use Rattle.keep.specs.declared.Opened.{Opened}
 use Rattle.keep.specs.Whole.{freshArea, sealedArea, areaRight, highest, ended, allEnded, storeRight}
 use Rattle.keep.specs.Keep.{said, formatRefusal, formatted, formatRule, sealRefusal, sealed, sealRule, openRefusal, openRule}

@@ -12,7 +12,7 @@ use Rattle.kind.specs.Kind.{pages, dataKind, undoKind, statusKind}
 use Rattle.kind.specs.Areas.{Areas}
 use Rattle.page.specs.Header.{pageAt, txnId, fieldIn}
 use Rattle.status.specs.Status.{lastNumber, statusAt}
-use Rattle.page.specs.Whole.{pageRight, sealedPage, freshPage}
+use Rattle.whole.specs.Whole.{pageRight, sealedPage, freshPage}
 
 -- pages 1 to n, as format writes them
 unfoldable pub freshArea : Kind → ℕ → List ℕ

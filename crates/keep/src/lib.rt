@@ -40,7 +40,7 @@ fn format_area(s: &mut [u8], k: Kind)
     let n = s.len() / Kind::PAGE;
     let mut p = 0;
     while p < n {
-        page::whole::fresh_page(s, p, k);
+        whole::fresh_page(s, p, k);
         p += 1;
     }
 }
@@ -68,7 +68,7 @@ fn seal_area(s: &mut [u8])
     let n = s.len() / Kind::PAGE;
     let mut p = 0;
     while p < n {
-        page::whole::seal_page(s, p);
+        whole::seal_page(s, p);
         p += 1;
     }
 }
@@ -102,7 +102,7 @@ fn area_right(s: &[u8], k: Kind) -> bool
     while p < n {
         let at = p * Kind::PAGE;
         let end = at + Kind::PAGE;
-        if !page::whole::is_right(&s[at..end], (p + 1) as u32, k) {
+        if !whole::is_right(&s[at..end], (p + 1) as u32, k) {
             return false;
         }
         p += 1;

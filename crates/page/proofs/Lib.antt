@@ -1,4 +1,2 @@
 pub mod Headers
-pub mod Wholes
 pub mod Counts
-pub mod Rights

@@ -1,5 +1,3 @@
-// Pages as a whole ("01, The page"): the header's fields, item counts, what touching a page writes, the checksum, a page that is
-// right and a page as format writes it.
+// The header of a page ("01, The page"): its fields, the item count, and what touching a page writes.
 pub mod count;
 pub mod header;
-pub mod whole;

@@ -1,9 +1,9 @@
--- `page::whole::is_right` meets its contract: it makes the tests of the header. Assumes nothing.
+-- `whole::is_right` meets its contract: it makes the tests of the header. Assumes nothing.
 use native.Mathlib.Omega.{arith}
-use Rattle.page.proofs.Wholes.{pageRight-read}
+use Rattle.whole.proofs.Wholes.{pageRight-read}
 use borrow.Author.Needs.{needs}
-use Rattle.page.proofs.whole.is_right.Statement.{statement}
-use Rattle.page.proofs.whole.is_right.Tie as tie
+use Rattle.whole.proofs.is_right.Statement.{statement}
+use Rattle.whole.proofs.is_right.Tie as tie
 
 checksum-requires : tie.Need-checksum-requires
 checksum-requires c κs = search needs

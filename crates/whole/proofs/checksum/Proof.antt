@@ -1,8 +1,8 @@
--- `page::whole::checksum` meets its contract: the checksum of the front is carried on over the rest. Assumes nothing.
-use Rattle.page.proofs.Wholes.{checksumOf-more}
+-- `whole::checksum` meets its contract: the checksum of the front is carried on over the rest. Assumes nothing.
+use Rattle.whole.proofs.Wholes.{checksumOf-more}
 use borrow.Author.Needs.{needs}
-use Rattle.page.proofs.whole.checksum.Statement.{statement}
-use Rattle.page.proofs.whole.checksum.Tie as tie
+use Rattle.whole.proofs.checksum.Statement.{statement}
+use Rattle.whole.proofs.checksum.Tie as tie
 
 sub-crc32c : tie.Need-sub-crc32c
 sub-crc32c c = search needs

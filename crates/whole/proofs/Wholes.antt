@@ -15,10 +15,10 @@ use Rattle.little.proofs.Fields.{length-bytesOf}
 use Rattle.crc.specs.Crc.{crcOf, crcMore}
 use Rattle.crc.proofs.CrcLaws.{crc-append}
 use Rattle.kind.specs.declared.Kind.{Kind}
 use Rattle.page.specs.Header.{header, pageAt, putField}
-use Rattle.page.specs.Whole.{checksumOf, pageRight, sealedPage, blankPage, freshPage}
+use Rattle.whole.specs.Whole.{checksumOf, pageRight, sealedPage, blankPage, freshPage}
 use Rattle.page.specs.Count.{itemsIn}
 use Rattle.page.proofs.Headers.{pageAt-lent}
 
 pub length-blankPage : (k : Kind) (id : ℕ) → length (blankPage k id) ≡ 8192
 unfolding blankPage

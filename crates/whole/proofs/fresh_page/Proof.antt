@@ -1,8 +1,8 @@
--- `page::whole::fresh_page` meets its contract. Assumes nothing.
-use Rattle.page.proofs.Wholes.{sealedPage-blankPage}
+-- `whole::fresh_page` meets its contract. Assumes nothing.
+use Rattle.whole.proofs.Wholes.{sealedPage-blankPage}
 use borrow.Author.Needs.{needs}
-use Rattle.page.proofs.whole.fresh_page.Statement.{statement}
-use Rattle.page.proofs.whole.fresh_page.Tie as tie
+use Rattle.whole.proofs.fresh_page.Statement.{statement}
+use Rattle.whole.proofs.fresh_page.Tie as tie
 
 blank-page-requires : tie.Need-blank-page-requires
 blank-page-requires c κs = search needs

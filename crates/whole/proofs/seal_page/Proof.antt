@@ -1,8 +1,8 @@
--- `page::whole::seal_page` meets its contract. Assumes nothing.
-use Rattle.page.proofs.Wholes.{sealedPage-store}
+-- `whole::seal_page` meets its contract. Assumes nothing.
+use Rattle.whole.proofs.Wholes.{sealedPage-store}
 use borrow.Author.Needs.{needs}
-use Rattle.page.proofs.whole.seal_page.Statement.{statement}
-use Rattle.page.proofs.whole.seal_page.Tie as tie
+use Rattle.whole.proofs.seal_page.Statement.{statement}
+use Rattle.whole.proofs.seal_page.Tie as tie
 
 mul-at : tie.Need-mul-at
 mul-at c = search needs

@@ -20,12 +20,12 @@ use Rattle.crc.specs.Crc.{crcOf}
 use Rattle.crc.proofs.CrcLaws.{crc-below}
 use Rattle.kind.specs.declared.Kind.{Kind}
 use Rattle.kind.specs.Kind.{dataKind, undoKind, statusKind}
 use Rattle.page.specs.Header.{header, pageAt, txnId, checksum, fieldIn}
 use Rattle.page.specs.Count.{inUse, itemsIn}
 use Rattle.status.specs.Status.{statusAt}
-use Rattle.page.specs.Whole.{checksumOf, pageRight, headerRight, sealedPage, blankPage, freshPage}
+use Rattle.whole.specs.Whole.{checksumOf, pageRight, headerRight, sealedPage, blankPage, freshPage}
 use Rattle.page.proofs.Headers.{length-putField, bytes-putField, pageAt-putField-same, pageAt-putField-other, statusAt-putField}
-use Rattle.page.proofs.Wholes.{length-blankPage}
+use Rattle.whole.proofs.Wholes.{length-blankPage}
 
 -- ---- the checksum of a page: it fits its field, and the field does not count
 

@@ -5,8 +5,8 @@ ghost use Prim.Native.Nat.{_+_, _*_, _<_, _≤_, _^_};
 ghost use lib.ListN.{length};
 ghost use lib.Seq.{sets};
 ghost use Rattle.kind.specs.Kind.{pageSize};
 ghost use Rattle.page.specs.Count.{Roomy};
-ghost use Rattle.page.specs.Whole.{checksumOf, pageRight, sealedPage, blankPage, freshPage};
+ghost use Rattle.whole.specs.Whole.{checksumOf, pageRight, sealedPage, blankPage, freshPage};
 
 // The checksum of a page, without its four checksum bytes.
 pub fn checksum(page: &[u8]) -> u32
@@ -23,7 +23,7 @@ pub fn is_right(page: &[u8], id: u32, k: Kind) -> bool
     ensures { λ r. ⌜ r ≡ pageRight k id (now (page .entry)) ⌝ }
 {
     let sum = checksum(page);
-    let items = crate::count::items(page, k);
+    let items = page::count::items(page, k);
     (little::get8(page, 0) == 0)
         & (little::get4(page, 16) == id)
         & (little::get4(page, 20) == sum)

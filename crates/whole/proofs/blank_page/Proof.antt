@@ -1,9 +1,9 @@
--- `page::whole::blank_page` meets its contract: its stores make a blank page. Assumes nothing.
-use Rattle.page.proofs.Wholes.{blank-stores}
+-- `whole::blank_page` meets its contract: its stores make a blank page. Assumes nothing.
+use Rattle.whole.proofs.Wholes.{blank-stores}
 use Prim.Native.Nat.{_+_, _*_}
 use borrow.Author.Needs.{needs}
-use Rattle.page.proofs.whole.blank_page.Statement.{statement}
-use Rattle.page.proofs.whole.blank_page.Tie as tie
+use Rattle.whole.proofs.blank_page.Statement.{statement}
+use Rattle.whole.proofs.blank_page.Tie as tie
 
 mul-at : tie.Need-mul-at
 mul-at c = search needs
