@@ -1,0 +1,2 @@
+pub mod Undones
+pub mod Outcomes

@@ -1,0 +1,1 @@
+// No code: proofs/ has what withdraw and sweep do to the chains of all rows, which the theorems above cite.

@@ -1,0 +1,7 @@
+pub mod Apart
+pub mod Fits
+pub mod Gone
+pub mod Rows
+pub mod Runs
+pub mod Shapes
+pub mod Strands

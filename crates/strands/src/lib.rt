@@ -1,0 +1,1 @@
+// No code: what freeing entries does to chains, and that rows are independent.

@@ -1,0 +1,3 @@
+pub mod Treats
+pub mod Calls
+pub mod Promises

@@ -1,0 +1,76 @@
+-- What the contract of sweep promises ("01, Writes, withdrawal, sweep", "01, When the desk says no"). Assumes nothing.
+use mathlib.Core.Path.{_≡_, refl}
+use mathlib.Core.Logic.{_⊎_}
+use mathlib.Core.Bool.{Bool, true, false, cond}
+use Prim.Native.Nat.{ℕ, _+_, _-_, _≤_, _<_}
+use native.Mathlib.Omega.{arith}
+use lib.Dec.{ltb}
+use borrow.Author.Tests.{ltb-true, ltb-false}
+use Rattle.ground.specs.Does.{Does}
+use Rattle.ground.proofs.Once.{once}
+use Rattle.ground.proofs.Refusals.{settled}
+use Rattle.little.specs.Little.{Bytes}
+use Rattle.desk.specs.declared.Desk.{Desk}
+use Rattle.desk.specs.Turns.{mark}
+use Rattle.kind.specs.Kind.{rows}
+use Rattle.kind.specs.Areas.{Areas, areas}
+use Rattle.freeing.specs.Freeing.{both}
+use Rattle.sweeping.specs.Sweeping.{treated, heldFrom, sweepRefusal, swept, sweepRule}
+use Rattle.sweeping.proofs.Treats.{Same, rows-other}
+
+module _ (a : Areas) (d : Desk) (first quota : ℕ) where
+  -- no second result meets the contract
+  pub sweep-once : {r r′ : ℕ × ℕ × ℕ} {x x′ : Areas} → Does (sweepRule a d first quota) r x → Does (sweepRule a d first quota) r′ x′
+      → (r ≡ r′) × (x ≡ x′)
+  sweep-once p q = once p q
+
+  -- how many rows are treated, and what is answered and left where nothing is refused
+  abbrev n : ℕ
+  n = treated (a .«data») first quota
+
+  abbrev done : (ℕ × ℕ × ℕ) × Areas
+  done = (
+    (0, first + n, heldFrom first n (both (a .«data») (a .undo)) - heldFrom first n (swept a d first quota)),
+    areas (swept a d first quota .«data») (swept a d first quota .undo) (a .status),
+  )
+
+  abbrev no : ℕ → (ℕ × ℕ × ℕ) × Areas
+  no k = ((k, 0, 0), a)
+
+  -- "a refused call changes nothing", and has no numbers
+  pub sweep-refused-leaves : (sweepRule a d first quota .0 .0 ≡ 0 → ⊥)
+      → (sweepRule a d first quota .0 .1 ≡ 0) × (sweepRule a d first quota .0 .2 ≡ 0) × (sweepRule a d first quota .1 ≡ a)
+  unfolding sweepRule
+  sweep-refused-leaves =
+      settled done no (sweepRefusal a d first quota)
+      (λ (y : (ℕ × ℕ × ℕ) × Areas). (y .0 .0 ≡ 0 → ⊥) → (y .0 .1 ≡ 0) × (y .0 .2 ≡ 0) × (y .1 ≡ a))
+      (λ e h. absurd (h refl))
+      (λ m h. (refl, refl, refl))
+
+  -- a row that is treated is a row of the area
+  treated-inside : (t : ℕ) → first ≤ t → t < first + n → t < rows (a .«data»)
+  unfolding treated
+  treated-inside t low high = by (ltb quota (rows (a .«data») - first)) refl high
+    where
+      by : (b : Bool) → ltb quota (rows (a .«data») - first) ≡ b → t < first + cond b quota (rows (a .«data») - first) → t < rows (a .«data»)
+      by true k h = let less : quota < rows (a .«data») - first = ltb-true quota (rows (a .«data») - first) k in omega arith
+      by false k h = omega arith
+
+  -- the rows that are not treated keep slot, body and chain
+  pub sweep-leaves : Bytes (a .«data») → Bytes (a .undo) → (t : ℕ) → (t < first) ⊎ (first + n ≤ t)
+      → Same t (both (a .«data») (a .undo)) (both (sweepRule a d first quota .1 .«data») (sweepRule a d first quota .1 .undo))
+  unfolding sweepRule swept
+  sweep-leaves own own′ t out =
+      settled done no (sweepRefusal a d first quota)
+      (λ (y : (ℕ × ℕ × ℕ) × Areas). Same t (both (a .«data») (a .undo)) (both (y .1 .«data») (y .1 .undo)))
+      (λ e. rows-other (mark d) (a .status) first n (both (a .«data») (a .undo)) (record { within = treated-inside; «data» = own; undo = own′ }) t out)
+      (λ m. record { chains = refl; slots = refl; bodies = refl })
+
+  -- "treats min(quota, rows left) of them": no more than asked, and no row outside the area
+  pub sweep-few : n ≤ quota
+  unfolding treated
+  sweep-few = by (ltb quota (rows (a .«data») - first)) refl
+    where
+      by : (b : Bool) → ltb quota (rows (a .«data») - first) ≡ b → cond b quota (rows (a .«data») - first) ≤ quota
+      by true k = omega arith
+      by false k = ltb-false quota (rows (a .«data») - first) k

@@ -1,0 +1,6 @@
+pub mod Wholes
+pub mod Cuts
+pub mod Rests
+pub mod Behinds
+pub mod Sweeps
+pub mod Trims

@@ -1,0 +1,87 @@
+-- `trimming::free_rest` meets its contract. The loop's invariant: freeing the rest of the chain from here on leaves what freeing it from
+-- the first pointer on does. Assumes nothing.
+use borrow.Author.Needs.{needs}
+use denote.Enum.Declared.{tagOf, declared}
+use mathlib.Core.Path.{_≡_, refl, sym, _∙_}
+use Prim.Native.Nat.{_≤_, _-_}
+use native.Mathlib.Omega.{arith}
+use lib.ListN.{length}
+use Rattle.chain.proofs.Link.{enum}
+use Rattle.strands.proofs.Strands.{link-inside}
+use Rattle.trimming.proofs.Rests.{Freed, freed-start, freed-next, freed-end, freed-out}
+use Rattle.trimming.proofs.free_rest.Statement.{statement}
+use Rattle.trimming.proofs.free_rest.Tie as tie
+
+abbrev Inv-loop : tie.InvT-loop
+Inv-loop undo₀ r first most ptr₀ n₀ undo ptr n = (n ≤ most) × (length undo ≡ length undo₀) × Freed undo₀ r first most undo ptr n
+
+abbrev μ-loop : tie.MeasureT-loop
+μ-loop undo₀ r first most ptr₀ n₀ undo ptr n = most - n
+
+mul-most : tie.Need-mul-most Inv-loop μ-loop
+mul-most c = search needs
+
+loop-holds : tie.Need-loop-holds Inv-loop μ-loop
+loop-holds c = (omega arith, refl, freed-start _ _ _ _)
+
+follow-requires : tie.Need-follow-requires Inv-loop μ-loop
+follow-requires c κs = search needs
+
+enum-known-l : tie.Need-enum-known-l Inv-loop μ-loop
+enum-known-l c = search needs
+
+sweep-entry-requires : tie.Need-sweep-entry-requires Inv-loop μ-loop
+sweep-entry-requires c κs =
+    let l = c .before .before in
+    link-inside _ _ _ _ _ (sym (l .before .before .follow .ensures) ∙ l .l .given .1)
+
+add-n : tie.Need-add-n Inv-loop μ-loop
+add-n c = search needs
+
+loop-less : tie.Need-loop-less Inv-loop μ-loop
+loop-less c = search needs
+
+loop-again : tie.Need-loop-again Inv-loop μ-loop
+loop-again c =
+    let called = c .before .before in
+    let l = called .before .before .before in
+    let followed = l .before .before in
+    let head = followed .before .before .before in (
+      omega arith,
+      omega arith,
+      freed-next _ _ _ _ _ _ _ (head .loop .inv .2) _ _ (omega arith) (followed .follow .ensures) (l .l .given .1) (called .sweep-entry .ensures),
+    )
+
+same-length : tie.Need-same-length Inv-loop μ-loop
+same-length c = search needs
+
+returns : tie.Need-returns Inv-loop μ-loop
+returns c = freed-out _ _ _ _ _ _ _ (c .before .loop .inv .2) (omega arith)
+
+same-length-2 : tie.Need-same-length-2 Inv-loop μ-loop
+same-length-2 c = search needs
+
+returns-2 : tie.Need-returns-2 Inv-loop μ-loop
+returns-2 c =
+    let followed = c .before in
+    let head = followed .before .before .before in
+    freed-end _ _ _ _ _ _ _ (head .loop .inv .2) (tagOf (declared enum)) (λ e m. refl) (followed .follow .result) (c .match .keys2) (followed .follow .ensures)
+
+pub free-rest-spec : {M : Type 1} → statement M
+free-rest-spec =
+    tie.close
+    (tie.spec
+    Inv-loop
+    μ-loop
+    mul-most
+    loop-holds
+    follow-requires
+    enum-known-l
+    sweep-entry-requires
+    add-n
+    loop-less
+    loop-again
+    same-length
+    returns
+    same-length-2
+    returns-2)

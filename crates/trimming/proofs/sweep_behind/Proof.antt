@@ -1,0 +1,138 @@
+-- `trimming::sweep_behind` meets its contract. The loop's invariant: what goes behind the version at which the walk stands is what goes
+-- behind the slot, and nothing is written yet. Assumes nothing.
+use borrow.Author.Needs.{needs}
+use denote.Enum.Declared.{tagOf, declared}
+use mathlib.Core.Path.{_≡_, refl, sym, _∙_}
+use Prim.Native.Nat.{_≤_}
+use native.Mathlib.Omega.{arith}
+use lib.ListN.{length}
+use Rattle.kind.specs.Kind.{entries}
+use Rattle.chain.proofs.Link.{enum}
+use Rattle.trimming.proofs.Cuts.{inside-long}
+use Rattle.trimming.proofs.Behinds.{Stays, stays-start, stays-end, stays-out, stays-next, goes-counts, goes-leaves}
+use Rattle.trimming.proofs.sweep_behind.Statement.{statement}
+use Rattle.trimming.proofs.sweep_behind.Tie as tie
+
+abbrev Inv-loop : tie.InvT-loop
+Inv-loop data₀ undo₀ status r mark left₀ at₀ newer₀ «data» undo left at newer =
+    (length «data» ≡ length data₀)
+    × (length undo ≡ length undo₀)
+    × (left ≤ entries undo)
+    × Stays mark status data₀ undo₀ r newer₀ «data» undo left at newer
+
+abbrev μ-loop : tie.MeasureT-loop
+μ-loop data₀ undo₀ status r mark left₀ at₀ newer₀ «data» undo left at newer = left
+
+mul-left : tie.Need-mul-left Inv-loop μ-loop
+mul-left c = search needs
+
+loop-holds : tie.Need-loop-holds Inv-loop μ-loop
+loop-holds c =
+    let start = c .before .before .before .before in
+    (refl, refl, omega arith, stays-start _ _ _ _ _ _ (start .pre .0) (start .pre .2))
+
+follow-requires : tie.Need-follow-requires Inv-loop μ-loop
+follow-requires c κs = search needs
+
+enum-known-l : tie.Need-enum-known-l Inv-loop μ-loop
+enum-known-l c = search needs
+
+same-length : tie.Need-same-length Inv-loop μ-loop
+same-length c = search needs
+
+same-length-2 : tie.Need-same-length-2 Inv-loop μ-loop
+same-length-2 c = search needs
+
+returns : tie.Need-returns Inv-loop μ-loop
+returns c =
+    let followed = c .before in
+    let head = followed .before .before .before in
+    stays-end _ _ _ _ _ _ _ _ _ _ _ (head .loop .inv .3) (tagOf (declared enum)) (λ e m. refl) (followed .follow .result) (c .match .keys2)
+    (followed .follow .ensures)
+
+is-dead-requires : tie.Need-is-dead-requires Inv-loop μ-loop
+is-dead-requires c κs = search needs
+
+free-rest-requires : tie.Need-free-rest-requires Inv-loop μ-loop
+free-rest-requires c κs = search needs
+
+cut-requires : tie.Need-cut-requires Inv-loop μ-loop
+cut-requires c κs =
+    let rest = c .before .before .before .before in
+    let head = rest .before .before .before .before .before .before .before .before .before .before .before in
+    let long : length (rest .free-rest .last .0) ≡ length (head .loop .undo) = search needs in
+    inside-long (head .loop .at) _ _ _ long (head .loop .inv .3 .within)
+
+same-length-3 : tie.Need-same-length-3 Inv-loop μ-loop
+same-length-3 c = search needs
+
+same-length-4 : tie.Need-same-length-4 Inv-loop μ-loop
+same-length-4 c = search needs
+
+returns-2 : tie.Need-returns-2 Inv-loop μ-loop
+returns-2 c =
+    let cut = c .before .before .before .before in
+    let rest = cut .before .before .before .before .before in
+    let saw = rest .before .before .before in
+    let l = saw .before .before .before in
+    let followed = l .before .before in
+    let head = followed .before .before .before in
+    let to = sym (followed .follow .ensures) ∙ l .l .given .1 in
+    let dead = sym (saw .is-dead .ensures) ∙ rest .before .before .if1 .taken in (
+      goes-counts _ _ _ _ _ _ _ _ _ _ _ (head .loop .inv .3) _ _ (omega arith) to (head .loop .inv .2) dead (rest .free-rest .ensures .0),
+      goes-leaves _ _ _ _ _ _ _ _ _ _ _ (head .loop .inv .3) _ _ (omega arith) to (head .loop .inv .2) dead (rest .free-rest .ensures .1) (cut .cut .ensures),
+    )
+
+sub-left : tie.Need-sub-left Inv-loop μ-loop
+sub-left c = search needs
+
+loop-less : tie.Need-loop-less Inv-loop μ-loop
+loop-less c = search needs
+
+loop-again : tie.Need-loop-again Inv-loop μ-loop
+loop-again c =
+    let saw = c .before in
+    let l = saw .before .before .before in
+    let followed = l .before .before in
+    let head = followed .before .before .before in (
+      head .loop .inv .0,
+      head .loop .inv .1,
+      omega arith,
+      stays-next _ _ _ _ _ _ _ _ _ _ _ (head .loop .inv .3) _ _ (omega arith) (sym (followed .follow .ensures) ∙ l .l .given .1)
+          (sym (saw .is-dead .ensures) ∙ c .if1 .left),
+    )
+
+same-length-5 : tie.Need-same-length-5 Inv-loop μ-loop
+same-length-5 c = search needs
+
+same-length-6 : tie.Need-same-length-6 Inv-loop μ-loop
+same-length-6 c = search needs
+
+returns-3 : tie.Need-returns-3 Inv-loop μ-loop
+returns-3 c = stays-out _ _ _ _ _ _ _ _ _ _ _ (c .before .loop .inv .3) (omega arith)
+
+pub sweep-behind-spec : {M : Type 1} → statement M
+sweep-behind-spec =
+    tie.close
+    (tie.spec
+    Inv-loop
+    μ-loop
+    mul-left
+    loop-holds
+    follow-requires
+    enum-known-l
+    same-length
+    same-length-2
+    returns
+    is-dead-requires
+    free-rest-requires
+    cut-requires
+    same-length-3
+    same-length-4
+    returns-2
+    sub-left
+    loop-less
+    loop-again
+    same-length-5
+    same-length-6
+    returns-3)

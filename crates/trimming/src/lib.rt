@@ -1,0 +1,150 @@
+// What the sweep does to one row ("01, Writes, withdrawal, sweep"): "the first version whose expirer is committed and below the mark
+// goes with all older ones; the newer version's pointer becomes 0, or the slot is emptied". The row's chain is whole.
+use chain::Link;
+use chain::Place;
+use kind::Kind;
+use records::slot::Slot;
+ghost use mathlib.Core.Path.{_≡_};
+ghost use mathlib.Core.Bool.{true};
+ghost use mathlib.Core.List.{[]};
+ghost use Prim.Native.Nat.{_<_};
+ghost use lib.ListN.{length};
+ghost use Rattle.kind.specs.Kind.{pageSize, rows, entries};
+ghost use Rattle.chain.specs.declared.Place.the-variants.{Data};
+ghost use Rattle.chain.specs.Chain.{chainFrom, chainOf};
+ghost use Rattle.freeing.specs.Freeing.{both};
+ghost use Rattle.trimming.specs.Trimming.{deadIn, unlinked, inside, cutAt, sweptAll, sweptBehind, goneBehind, sweptRow, goneRow};
+
+// Whether a version's "expirer is committed and below the mark".
+fn is_dead(status: &[u8], mark: u64, m: Slot) -> bool
+    requires { ⌜ length (now status) ≡ pageSize ⌝ }
+    ensures { λ r. ⌜ r ≡ deadIn mark (now (status .entry)) m ⌝ }
+{
+    sight::is_committed(status, m.expire) && m.expire < mark
+}
+
+// Whether the chain of row r is whole. Where it goes round, as many copies as there are entries are looked at.
+pub fn is_whole<'a>(data: &'a [u8], undo: &'a [u8], r: usize) -> bool
+    requires { ⌜ r < rows (now «data») ⌝ }
+    ensures { λ b. ⌜ b ≡ chainOf (now («data» .entry)) (now (undo .entry)) r .whole ⌝ }
+{
+    let m = records::slot::read_slot(data, r);
+    if m.create == 0 {
+        return true;
+    }
+    let most = undo.len() / Kind::PAGE * Kind::UNDO.count;
+    let mut ptr = m.undo_ptr;
+    let mut looked = 1;
+    let whole = loop {
+        let l = chain::follow(undo, r, ptr);
+        match l {
+            Link::End => break true,
+            Link::Break => break false,
+            Link::To(_, n) => {
+                if looked > most {
+                    break false;
+                }
+                ptr = n.copy.undo_ptr;
+                looked += 1;
+            }
+        }
+    };
+    whole
+}
+
+// Frees the entries of row r from a pointer on, and counts them.
+fn free_rest(undo: &mut [u8], r: usize, first: u64) -> usize
+    ensures counts { λ n. ⌜ n ≡ length (chainFrom (now (undo .entry)) r (entries (now (undo .entry))) [] first .versions) ⌝ }
+    ensures leaves { λ _. ⌜ now (undo .exit) ≡ sweptAll (chainFrom (now (undo .entry)) r (entries (now (undo .entry))) [] first .versions) (now (undo .entry)) ⌝ }
+{
+    let most = undo.len() / Kind::PAGE * Kind::UNDO.count;
+    let mut ptr = first;
+    let mut n = 0;
+    while n < most {
+        let l = chain::follow(undo, r, ptr);
+        let Link::To(e, m) = l else {
+            break;
+        };
+        freeing::sweep_entry(undo, e);
+        ptr = m.copy.undo_ptr;
+        n += 1;
+    }
+    n
+}
+
+// A version behind which nothing is left: "the newer version's pointer becomes 0".
+fn unlink(m: Slot) -> Slot
+    ensures { λ x. ⌜ x ≡ unlinked m ⌝ }
+{
+    Slot {
+        create: m.create,
+        expire: m.expire,
+        undo_ptr: 0,
+        cmd: m.cmd,
+        expire_cmd: m.expire_cmd,
+    }
+}
+
+// Cuts the chain behind the version m that lies at a place.
+fn cut(data: &mut [u8], undo: &mut [u8], at: Place, m: Slot)
+    requires { ⌜ inside at (now «data») (now undo) ⌝ }
+    ensures { λ _. ⌜ both (now («data» .exit)) (now (undo .exit)) ≡ cutAt at m (both (now («data» .entry)) (now (undo .entry))) ⌝ }
+{
+    match at {
+        Place::Nowhere => {}
+        Place::Data(r) => freeing::cut_slot(data, r, unlink(m)),
+        Place::Undo(e) => freeing::cut_copy(undo, e, unlink(m)),
+    }
+}
+
+// Sweeps behind the slot m of row r, which stays: from the first copy that goes on.
+fn sweep_behind(
+    data: &mut [u8],
+    undo: &mut [u8],
+    status: &[u8],
+    r: usize,
+    m: Slot,
+    mark: u64,
+) -> usize
+    requires { ⌜ (r < rows (now «data»)) × (length (now status) ≡ pageSize) × (chainFrom (now undo) r (entries (now undo)) [] (m .«undo_ptr») .whole ≡ true) ⌝ }
+    ensures counts { λ n. ⌜ n ≡ goneBehind mark (now (status .entry)) (chainFrom (now (undo .entry)) r (entries (now (undo .entry))) [] (m .«undo_ptr») .versions) ⌝ }
+    ensures leaves { λ _. ⌜ both (now («data» .exit)) (now (undo .exit)) ≡ sweptBehind mark (now (status .entry)) (record { place = Data r; slot = m }) (chainFrom (now (undo .entry)) r (entries (now (undo .entry))) [] (m .«undo_ptr») .versions) (both (now («data» .entry)) (now (undo .entry))) ⌝ }
+{
+    let mut left = undo.len() / Kind::PAGE * Kind::UNDO.count;
+    let mut at = Place::Data(r);
+    let mut newer = m;
+    while left > 0 {
+        let l = chain::follow(undo, r, newer.undo_ptr);
+        let Link::To(e, next) = l else {
+            return 0;
+        };
+        let copy = next.copy;
+        if is_dead(status, mark, copy) {
+            let n = free_rest(undo, r, newer.undo_ptr);
+            cut(data, undo, at, newer);
+            return n;
+        }
+        at = Place::Undo(e);
+        newer = copy;
+        left -= 1;
+    }
+    0
+}
+
+// Sweeps one row, and answers the versions removed.
+pub fn sweep_row(data: &mut [u8], undo: &mut [u8], status: &[u8], r: usize, mark: u64) -> usize
+    requires { ⌜ (r < rows (now «data»)) × (length (now status) ≡ pageSize) × (chainOf (now «data») (now undo) r .whole ≡ true) ⌝ }
+    ensures counts { λ n. ⌜ n ≡ goneRow mark (now (status .entry)) r (both (now («data» .entry)) (now (undo .entry))) ⌝ }
+    ensures leaves { λ _. ⌜ both (now («data» .exit)) (now (undo .exit)) ≡ sweptRow mark (now (status .entry)) r (both (now («data» .entry)) (now (undo .entry))) ⌝ }
+{
+    let m = records::slot::read_slot(data, r);
+    if m.create == 0 {
+        return 0;
+    }
+    if is_dead(status, mark, m) {
+        let n = free_rest(undo, r, m.undo_ptr);
+        freeing::sweep_slot(data, r);
+        return n + 1;
+    }
+    sweep_behind(data, undo, status, r, m, mark)
+}

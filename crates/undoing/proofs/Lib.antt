@@ -1,0 +1,4 @@
+pub mod Breaks
+pub mod Rounds
+pub mod Calls
+pub mod Promises

@@ -1,0 +1,113 @@
+// Withdraw ("01, Writes, withdrawal, sweep", "01, When the desk says no"): all rows are looked at before the first byte is written.
+use admit::Admitted;
+use answer::Answer;
+use chain::Link;
+use desk::Desk;
+use kind::Kind;
+use status::Status;
+ghost use mathlib.Core.Path.{_≡_};
+ghost use Prim.Native.Nat.{_<_};
+ghost use Rattle.ground.specs.Does.{Does};
+ghost use Rattle.kind.specs.Kind.{rows};
+ghost use Rattle.kind.specs.Areas.{areas};
+ghost use Rattle.freeing.specs.Freeing.{both};
+ghost use Rattle.undoing.specs.Undoing.{someBroken, undoneFrom, saidWithdrawn, withdrawRule};
+
+// What withdraw answers: the desk, which a refusal leaves as it was.
+pub struct Withdrawn {
+    pub answer: Answer,
+    pub desk: Desk,
+}
+
+// Whether in some row "a break [is] met between a slot created by S and the first version not created by S". A chain that leads to an
+// entry already passed goes round, until as many copies as there are entries were looked at.
+fn is_broken<'a>(data: &'a [u8], undo: &'a [u8], number: u64, k: u32) -> bool
+    requires { ⌜ 0 < number ⌝ }
+    ensures { λ b. ⌜ b ≡ someBroken number k (now («data» .entry)) (now (undo .entry)) ⌝ }
+{
+    let rows = data.len() / Kind::PAGE * Kind::DATA.count;
+    let most = undo.len() / Kind::PAGE * Kind::UNDO.count;
+    let mut r = 0;
+    let broken = 'rows: loop {
+        if r >= rows {
+            break 'rows false;
+        }
+        let m = records::slot::read_slot(data, r);
+        if putback::is_own(number, k, m.create, m.cmd) {
+            let mut ptr = m.undo_ptr;
+            let mut looked = 1;
+            loop {
+                let l = chain::follow(undo, r, ptr);
+                match l {
+                    Link::End => break,
+                    Link::Break => break 'rows true,
+                    Link::To(_, n) => {
+                        let copy = n.copy;
+                        if looked > most {
+                            break 'rows true;
+                        }
+                        if !putback::is_own(number, k, copy.create, copy.cmd) {
+                            break;
+                        }
+                        ptr = copy.undo_ptr;
+                        looked += 1;
+                    }
+                }
+            }
+        }
+        r += 1;
+    };
+    broken
+}
+
+// Withdraws from every row.
+fn undo_rows(data: &mut [u8], undo: &mut [u8], number: u64, k: u32)
+    requires { ⌜ 0 < number ⌝ }
+    ensures { λ _. ⌜ both (now («data» .exit)) (now (undo .exit)) ≡ undoneFrom number k 0 (rows (now («data» .entry))) (both (now («data» .entry)) (now (undo .entry))) ⌝ }
+{
+    let rows = data.len() / Kind::PAGE * Kind::DATA.count;
+    let mut r = 0;
+    while r < rows {
+        putback::undo_row(data, undo, r, number, k);
+        r += 1;
+    }
+}
+
+// Withdraws a session: its status becomes 10, it is closed, and what it wrote is taken back.
+pub fn withdraw(
+    data: &mut [u8],
+    undo: &mut [u8],
+    status: &mut [u8],
+    desk: Desk,
+    session: u64,
+) -> Withdrawn
+    ensures { λ r. ⌜ Does (withdrawRule (areas (now («data» .entry)) (now (undo .entry)) (now (status .entry))) desk session) (saidWithdrawn r) (areas (now («data» .exit)) (now (undo .exit)) (now (status .exit))) ⌝ }
+{
+    let a = admit::admit(
+        data.len(),
+        undo.len(),
+        status.len(),
+        desk.next,
+        &desk.numbers,
+        &desk.statements,
+        &desk.lists,
+        session,
+    );
+    match a {
+        Admitted::Refused(answer) => Withdrawn { answer, desk },
+        Admitted::At(k) => {
+            if is_broken(data, undo, session, Desk::FIRST_STATEMENT) {
+                return Withdrawn {
+                    answer: Answer::Broken,
+                    desk,
+                };
+            }
+            undo_rows(data, undo, session, Desk::FIRST_STATEMENT);
+            status::put_status(status, session as usize, Status::Withdrawn);
+            Withdrawn {
+                answer: Answer::Done,
+                desk: desk.withdraw(k),
+            }
+        }
+    }
+}
