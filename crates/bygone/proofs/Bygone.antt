@@ -14,7 +14,7 @@ use Rattle.desk.specs.declared.Desk.{Desk}
 use Rattle.desk.specs.Turns.{viewAt, mark}
 use Rattle.sessions.proofs.Changes.{mark-numbers, mark-lists}
 use Rattle.sight.specs.declared.Stamp.{Stamp}
-use Rattle.sight.specs.Sight.{committed, listed, sees, known, there}
+use Rattle.sight.specs.Sight.{committed, listed, known, there}
 use Rattle.sight.specs.Conflict.{isDead}
 use Rattle.sight.proofs.Sights.{committed-in, listed-at, sees-intro, known-other, there-unknown, there-expired}
 

@@ -15,7 +15,7 @@ use Rattle.desk.specs.Turns.{viewAt}
 use Rattle.kind.specs.Kind.{rows, entries}
 use Rattle.kind.specs.Areas.{Areas, areas, badLength}
 use Rattle.chain.specs.declared.Place.{Place}
-use Rattle.chain.specs.declared.Place.the-variants.{Nowhere, Data}
+use Rattle.chain.specs.declared.Place.the-variants.{Nowhere}
 use Rattle.chain.specs.declared.Walk.{Walk}
 use Rattle.chain.specs.declared.Walk.the-variants.{Found, Absent, Broken}
 use Rattle.chain.specs.Walk.{walkRule}
@@ -123,7 +123,8 @@ readRefusal a d x r =
     ∷ (misses (a .«data») (a .undo) (a .status) (viewIn d x) r, 7)
     ∷ [])
 
--- where the version found lies, and "how many versions it looked at, the answer included"
+-- where the version found lies, and "how many versions it looked at, the answer included"; where there is none the call is refused, by 6 or
+-- 7, and this is not asked
 abbrev pub seenBy : Walk → ℕ × Place × ℕ
 seenBy (Found place n) = (0, place, n)
 seenBy Absent = (0, Nowhere, 0)

@@ -1,7 +1,6 @@
 -- `rows::insert` meets its contract: by what admission says, then by the body and the room. Assumes nothing.
 use mathlib.Core.Path.{refl, sym, _∙_}
 use native.Mathlib.Omega.{arith}
-use lib.ListN.{length}
 use Rattle.ground.proofs.Once.{does-case}
 use Rattle.admit.proofs.Admissions.{Admits, admits, admits-place, admits-lent}
 use Rattle.rows.proofs.Calls.{insert-inside, insert-refused, insert-5, insert-11, insert-0}
