@@ -1,45 +1,26 @@
 -- Where the body of a version lies, as the code finds it: `at` is the place of its record ("01, Sessions and sight"). Assumes nothing.
-use mathlib.Core.Path.{_≡_, sym, ap, _∙_}
+use mathlib.Core.Path.{_≡_, ap}
 use mathlib.Core.List.{List, []}
 use Prim.Native.Nat.{ℕ, _+_, _-_, _≤_, _<_}
 use native.Mathlib.Omega.{arith}
 use lib.ListN.{length, take, drop}
 use borrow.Author.Tests.{lt-ltb, le-ltb}
-use Rattle.little.specs.Little.{part}
-use Rattle.little.proofs.Parts.{length-part, part-part}
 use Rattle.kind.specs.Kind.{rows, entries}
-use Rattle.kind.specs.Place.{recordAt}
-use Rattle.records.proofs.Slots.{slot-inside}
-use Rattle.records.proofs.Entries.{entry-inside}
-use Rattle.records.specs.Slot.{slotPlace, bodyAt}
-use Rattle.records.specs.Entry.{entryPlace, copyBodyAt}
+use Rattle.records.specs.Slot.{slotPlace}
+use Rattle.records.specs.Entry.{entryPlace}
+use Rattle.records.proofs.Bodies.{bodyAt-cut, copyBodyAt-cut, length-bodyAt, length-copyBodyAt}
 use Rattle.chain.specs.declared.Place.{Place}
 use Rattle.chain.specs.declared.Place.the-variants.{Nowhere, Data, Undo}
 use Rattle.chain.specs.Walk.{bodyOf, bodyFrom}
 
--- 32 bytes, cut out by a start and an end
-cut : (at k : ℕ) (s : List ℕ) → take (at + k + 32 - (at + k)) (drop (at + k) s) ≡ part (at + k) 32 s
-unfolding part
-cut at k s = let w : at + k + 32 - (at + k) ≡ 32 = omega arith in ap (λ (n : ℕ). take n (drop (at + k) s)) w
-
-slot-cut : (r : ℕ) (d : List ℕ) → part (slotPlace r + 32) 32 d ≡ bodyAt r d
-unfolding bodyAt recordAt
-slot-cut r d = sym (part-part 32 32 (slotPlace r) 64 d (omega arith))
-
-copy-cut : (e : ℕ) (u : List ℕ) → part (entryPlace e + 48) 32 u ≡ copyBodyAt e u
-unfolding copyBodyAt recordAt
-copy-cut e u = sym (part-part 48 32 (entryPlace e) 80 u (omega arith))
-
 -- a body is 32 bytes long
 pub length-slot-body : (d u : List ℕ) (r : ℕ) → r < rows d → length (bodyOf (Data r) d u) ≡ 32
 unfolding bodyOf
-length-slot-body d u r h =
-    rw (lt-ltb r (rows d) h) (ap length (sym (slot-cut r d)) ∙ length-part (slotPlace r + 32) 32 d (omega (arith, slot-inside r d h)))
+length-slot-body d u r h = rw (lt-ltb r (rows d) h) (length-bodyAt r d h)
 
 pub length-copy-body : (d u : List ℕ) (e : ℕ) → e < entries u → length (bodyOf (Undo e) d u) ≡ 32
 unfolding bodyOf
-length-copy-body d u e h =
-    rw (lt-ltb e (entries u) h) (ap length (sym (copy-cut e u)) ∙ length-part (entryPlace e + 48) 32 u (omega (arith, entry-inside e u h)))
+length-copy-body d u e h = rw (lt-ltb e (entries u) h) (length-copyBodyAt e u h)
 
 -- what is handed back, and where it begins
 abbrev Handed : Place → List ℕ → List ℕ → ℕ × ℕ → ℕ × ℕ → List ℕ → ℕ × ℕ → Type 0
@@ -54,7 +35,7 @@ module _ {place : Place} (d u : List ℕ) (pd pu : ℕ × ℕ) where
       → Handed place d u pd pu (take (at + 32 + 32 - (at + 32)) (drop (at + 32) d)) (pd .0, at + 32 + pd .1)
   unfolding bodyOf bodyFrom
   hand-slot {at} r is inside found = (
-    rw (is, lt-ltb r (rows d) inside) (cut at 32 d ∙ ap (λ (n : ℕ). part (n + 32) 32 d) found ∙ slot-cut r d),
+    rw (is, lt-ltb r (rows d) inside) (bodyAt-cut r d found),
     rw (is, lt-ltb r (rows d) inside) (ap (λ (n : ℕ). (pd .0, n)) (omega arith)),
   )
 
@@ -62,7 +43,7 @@ module _ {place : Place} (d u : List ℕ) (pd pu : ℕ × ℕ) where
       → Handed place d u pd pu (take (at + 48 + 32 - (at + 48)) (drop (at + 48) u)) (pu .0, at + 48 + pu .1)
   unfolding bodyOf bodyFrom
   hand-copy {at} e is inside found = (
-    rw (is, lt-ltb e (entries u) inside) (cut at 48 u ∙ ap (λ (n : ℕ). part (n + 48) 32 u) found ∙ copy-cut e u),
+    rw (is, lt-ltb e (entries u) inside) (copyBodyAt-cut e u found),
     rw (is, lt-ltb e (entries u) inside) (ap (λ (n : ℕ). (pu .0, n)) (omega arith)),
   )
 

@@ -2,20 +2,20 @@
 -- these and unfold nothing. Assumes nothing.
 use mathlib.Core.Path.{_≡_, ap, _∙_}
 use mathlib.Core.List.{List}
-use Prim.Native.Nat.{ℕ, _+_, _/_, _<_}
-use lib.ListN.{length, replicate}
-use Rattle.little.specs.Little.{part, bytesOf, Bytes}
-use Rattle.little.proofs.AllBytes.{bytes-sets, bytes-zeros, bytes-bytesOf}
+use Prim.Native.Nat.{ℕ, _/_, _<_}
+use lib.ListN.{length}
+use Rattle.little.specs.Little.{Bytes}
 use Rattle.kind.specs.declared.Kind.{Kind}
 use Rattle.kind.specs.Kind.{rows, entries, dataKind, undoKind}
 use Rattle.kind.specs.Place.{recordAt}
 use Rattle.kind.proofs.Places.{Lie, Within, within-other, length-within}
 use Rattle.records.specs.declared.slot.Slot.{Slot}
 use Rattle.records.specs.declared.entry.Entry.{Entry}
-use Rattle.records.specs.Slot.{slotOf, slotFields, slotPlace, slotAt, bodyAt, putMeta, clearSlot}
-use Rattle.records.specs.Entry.{entryOf, entryPlace, entryAt, copyBodyAt, putCopy, clearEntry}
-use Rattle.records.proofs.Slots.{SlotFit, slots-lie, slotOf-zeros, putMeta-within, clearSlot-within, slotAt-putMeta-same, bodyAt-putMeta-same, slotAt-clearSlot-same}
-use Rattle.records.proofs.Entries.{entries-lie, entryOf-zeros, putCopy-within, clearEntry-within, entryAt-putCopy-same, copyBodyAt-putCopy-same, entryAt-clearEntry-same}
+use Rattle.records.specs.Slot.{slotAt, bodyAt, putMeta, clearSlot}
+use Rattle.records.specs.Entry.{entryAt, copyBodyAt, putCopy, clearEntry}
+use Rattle.records.proofs.Slots.{SlotFit, slots-lie, slotAt-same, bodyAt-same, slotOf-zeros, putMeta-within, clearSlot-within, slotAt-putMeta-same, bodyAt-putMeta-same, slotAt-clearSlot-same}
+use Rattle.records.proofs.Entries.{entries-lie, entryAt-same, copyBodyAt-same, entryOf-zeros, putCopy-within, clearEntry-within, entryAt-putCopy-same, copyBodyAt-putCopy-same, entryAt-clearEntry-same}
+use Rattle.records.proofs.Fits.{bytes-putMeta, bytes-clearSlot, bytes-putCopy, bytes-clearEntry}
 use Rattle.page.specs.Count.{counted, touched}
 use Rattle.page.proofs.Counts.{length-counted, length-touched, bytes-counted, bytes-touched, recordAt-counted, recordAt-touched, slotAt-counted, bodyAt-counted, slotAt-touched, entryAt-counted, copyBodyAt-counted, entryAt-touched}
 use Rattle.freeing.specs.Freeing.{withoutSlot, withoutEntry, sweptSlot, sweptEntry, cutSlot, cutCopy}
@@ -80,22 +80,18 @@ StoredEntry = Stored 80 101
 -- another row is as it was
 module _ {r : ℕ} {d y : List ℕ} (w : StoredSlot r d y) (t : ℕ) (ne : t ≡ r → ⊥) where
   pub slotAt-stored-other : slotAt t y ≡ slotAt t d
-  unfolding slotAt
-  slotAt-stored-other = ap slotOf (record-other slots-lie w t ne)
+  slotAt-stored-other = slotAt-same d y t (record-other slots-lie w t ne)
 
   pub bodyAt-stored-other : bodyAt t y ≡ bodyAt t d
-  unfolding bodyAt
-  bodyAt-stored-other = ap (part 32 32) (record-other slots-lie w t ne)
+  bodyAt-stored-other = bodyAt-same d y t (record-other slots-lie w t ne)
 
 -- another entry is as it was
 module _ {e : ℕ} {u y : List ℕ} (w : StoredEntry e u y) (t : ℕ) (ne : t ≡ e → ⊥) where
   pub entryAt-stored-other : entryAt t y ≡ entryAt t u
-  unfolding entryAt
-  entryAt-stored-other = ap entryOf (record-other entries-lie w t ne)
+  entryAt-stored-other = entryAt-same u y t (record-other entries-lie w t ne)
 
   pub copyBodyAt-stored-other : copyBodyAt t y ≡ copyBodyAt t u
-  unfolding copyBodyAt
-  copyBodyAt-stored-other = ap (part 48 32) (record-other entries-lie w t ne)
+  copyBodyAt-stored-other = copyBodyAt-same u y t (record-other entries-lie w t ne)
 
 -- ---- the six are such stores, and what was stored is read: "Create 0 means empty", "0 means free"
 
@@ -173,35 +169,27 @@ module _ (e : ℕ) (m : Slot) (u : List ℕ) where
 -- ---- bytes stay bytes
 
 module _ (r : ℕ) (d : List ℕ) (b : Bytes d) where
-  bytes-cleared : Bytes (clearSlot r d)
-  unfolding clearSlot
-  bytes-cleared = bytes-sets (replicate 64 0) d (slotPlace r) (bytes-zeros 64) b
-
   pub bytes-withoutSlot : (txn : ℕ) → Bytes (withoutSlot txn r d)
   unfolding withoutSlot
-  bytes-withoutSlot txn = bytes-touched dataKind (r / 127) txn (clearSlot r d) bytes-cleared
+  bytes-withoutSlot txn = bytes-touched dataKind (r / 127) txn (clearSlot r d) (bytes-clearSlot r d b)
 
   pub bytes-sweptSlot : Bytes (sweptSlot r d)
   unfolding sweptSlot
-  bytes-sweptSlot = bytes-counted dataKind (r / 127) (clearSlot r d) bytes-cleared
+  bytes-sweptSlot = bytes-counted dataKind (r / 127) (clearSlot r d) (bytes-clearSlot r d b)
 
   pub bytes-cutSlot : (m : Slot) → Bytes (cutSlot r m d)
-  unfolding cutSlot putMeta
-  bytes-cutSlot m = bytes-counted dataKind (r / 127) (putMeta r m d) (bytes-sets (bytesOf (slotFields m)) d (slotPlace r) (bytes-bytesOf (slotFields m)) b)
+  unfolding cutSlot
+  bytes-cutSlot m = bytes-counted dataKind (r / 127) (putMeta r m d) (bytes-putMeta r d b m)
 
 module _ (e : ℕ) (u : List ℕ) (b : Bytes u) where
-  bytes-freed : Bytes (clearEntry e u)
-  unfolding clearEntry
-  bytes-freed = bytes-sets (replicate 80 0) u (entryPlace e) (bytes-zeros 80) b
-
   pub bytes-withoutEntry : (txn : ℕ) → Bytes (withoutEntry txn e u)
   unfolding withoutEntry
-  bytes-withoutEntry txn = bytes-touched undoKind (e / 101) txn (clearEntry e u) bytes-freed
+  bytes-withoutEntry txn = bytes-touched undoKind (e / 101) txn (clearEntry e u) (bytes-clearEntry e u b)
 
   pub bytes-sweptEntry : Bytes (sweptEntry e u)
   unfolding sweptEntry
-  bytes-sweptEntry = bytes-counted undoKind (e / 101) (clearEntry e u) bytes-freed
+  bytes-sweptEntry = bytes-counted undoKind (e / 101) (clearEntry e u) (bytes-clearEntry e u b)
 
   pub bytes-cutCopy : (m : Slot) → Bytes (cutCopy e m u)
-  unfolding cutCopy putCopy
-  bytes-cutCopy m = bytes-counted undoKind (e / 101) (putCopy e m u) (bytes-sets (bytesOf (slotFields m)) u (entryPlace e + 16) (bytes-bytesOf (slotFields m)) b)
+  unfolding cutCopy
+  bytes-cutCopy m = bytes-counted undoKind (e / 101) (putCopy e m u) (bytes-putCopy e u b m)

@@ -28,7 +28,8 @@ use Rattle.freeing.proofs.Freeings.{slotAt-stored-other, bodyAt-stored-other, w
 use Rattle.strands.specs.Strands.{Frees, Keeps, Shaped, Treated, RowIn, entryIn, Strand, rest, onFirst}
 use Rattle.strands.proofs.Strands.{withoutEntry-frees, link-inside, link-stands, freed-step}
 use Rattle.strands.proofs.Apart.{ofRow-refl, copies-refl, chainOf-treated}
-use Rattle.strands.proofs.Fits.{fit-slot, slotAt-fit, copy-fit, bytes-copyBody, length-copyBody}
+use Rattle.records.proofs.Bodies.{length-copyBodyAt, bytes-copyBodyAt}
+use Rattle.records.proofs.Fits.{fit-slot, slotAt-fit, copy-fit}
 use Rattle.strands.proofs.Gone.{Gone, gone-none, gone-freed, gone-enough}
 use Rattle.strands.proofs.Rows.{treated-refl}
 use Rattle.strands.proofs.Shapes.{shaped-refl, shaped-trans, shaped-withoutSlot, shaped-withMeta, shaped-withSlot, shaped-withoutEntry}
@@ -47,7 +48,7 @@ shaped-freedAt n (Data r) u = shaped-refl u
 shaped-freedAt n Nowhere u = shaped-refl u
 
 bytes-copy : (p : Place) (u : List ℕ) → Bytes u → Bytes (copyBody p u)
-bytes-copy (Undo e) u b = bytes-copyBody e u b
+bytes-copy (Undo e) u b = bytes-copyBodyAt e u b
 bytes-copy (Data r) u b = tt
 bytes-copy Nowhere u b = tt
 
@@ -84,7 +85,7 @@ module _ (n k r : ℕ) (d : List ℕ) where
       f = withoutEntry-frees n (entryIn x) u (step-inside (s .0))
 
       written : WrittenSlot r d (withSlot n r (unexpired (x .slot)) (copyBodyAt (entryIn x) u) d)
-      written = withSlot-written n r (unexpired (x .slot)) (copyBodyAt (entryIn x) u) d (length-copyBody (entryIn x) u (step-inside (s .0)))
+      written = withSlot-written n r (unexpired (x .slot)) (copyBodyAt (entryIn x) u) d (length-copyBodyAt (entryIn x) u (step-inside (s .0)))
 
       by : (t : Bool) → Kept (entryIn x ∷ ps) (withoutEntry n (entryIn x) u) (takenBack n k r xs (both d (withoutEntry n (entryIn x) u)))
           → Kept ps u (cond t (takenBack n k r xs (both d (withoutEntry n (entryIn x) u))) (back x u (entryIn x)))
@@ -178,7 +179,7 @@ module _ (n k r : ℕ) (d : List ℕ) where
 
             is : slotAt r (withSlot n r (unexpired (m .copy)) (copyBodyAt e u) d) ≡ unexpired (m .copy)
             is =
-                slotAt-withSlot n r (unexpired (m .copy)) (copyBodyAt e u) d (length-copyBody e u here) row
+                slotAt-withSlot n r (unexpired (m .copy)) (copyBodyAt e u) d (length-copyBodyAt e u here) row
                 (unexpired-fit (m .copy) (subst (λ (x : Entry). SlotFit (x .copy)) (sym (link-stands u r ptr e m h)) (copy-fit e u b here)))
 
             by : (t : Bool) → Taken (withoutEntry n e u) behind
@@ -227,7 +228,7 @@ module _ (n k r : ℕ) (d : List ℕ) where
         by true q ih = ih q
         by false q ih =
             let first : x ≡ z = cc in
-            bodyAt-withSlot n r (unexpired (x .slot)) (copyBodyAt (entryIn x) u) d (length-copyBody (entryIn x) u (step-inside (s .0))) row
+            bodyAt-withSlot n r (unexpired (x .slot)) (copyBodyAt (entryIn x) u) d (length-copyBodyAt (entryIn x) u (step-inside (s .0))) row
             ∙ same (entryIn x) (s .0 .fresh)
             ∙ ap (λ (p : Place). copyBody p v) (sym (step-place (s .0)) ∙ ap (λ (y : Version). y .place) first)
 

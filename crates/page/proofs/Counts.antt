@@ -23,8 +23,8 @@ use Rattle.page.specs.Header.{pageAt, txnId, itemCount, putField}
 use Rattle.page.specs.Count.{inUse, itemsIn, counted, touched}
 use Rattle.page.proofs.Headers.{pageAt-lent, length-putField, bytes-putField}
 use Rattle.kind.proofs.Places.{Lie, multiple-more, placeOf-numberOf, recordAt-header}
-use Rattle.records.proofs.Slots.{slots-lie}
-use Rattle.records.proofs.Entries.{entries-lie}
+use Rattle.records.proofs.Slots.{slots-lie, slotAt-same, bodyAt-same}
+use Rattle.records.proofs.Entries.{entries-lie, entryAt-same, copyBodyAt-same}
 
 -- ---- counting
 
@@ -94,33 +94,25 @@ module _ {size count : ℕ} (lie : Lie 8192 size count) (k : Kind) (p r : ℕ) (
 
 module _ (k : Kind) (p r : ℕ) (s : List ℕ) where
   pub slotAt-counted : slotAt r (counted k p s) ≡ slotAt r s
-  unfolding slotAt
-  slotAt-counted = ap slotOf (recordAt-counted slots-lie k p r s)
+  slotAt-counted = slotAt-same s (counted k p s) r (recordAt-counted slots-lie k p r s)
 
   pub bodyAt-counted : bodyAt r (counted k p s) ≡ bodyAt r s
-  unfolding bodyAt
-  bodyAt-counted = ap (part 32 32) (recordAt-counted slots-lie k p r s)
+  bodyAt-counted = bodyAt-same s (counted k p s) r (recordAt-counted slots-lie k p r s)
 
   pub slotAt-touched : (txn : ℕ) → slotAt r (touched k p txn s) ≡ slotAt r s
-  unfolding slotAt
-  slotAt-touched txn = ap slotOf (recordAt-touched slots-lie k p r s txn)
+  slotAt-touched txn = slotAt-same s (touched k p txn s) r (recordAt-touched slots-lie k p r s txn)
 
   pub bodyAt-touched : (txn : ℕ) → bodyAt r (touched k p txn s) ≡ bodyAt r s
-  unfolding bodyAt
-  bodyAt-touched txn = ap (part 32 32) (recordAt-touched slots-lie k p r s txn)
+  bodyAt-touched txn = bodyAt-same s (touched k p txn s) r (recordAt-touched slots-lie k p r s txn)
 
   pub entryAt-counted : entryAt r (counted k p s) ≡ entryAt r s
-  unfolding entryAt
-  entryAt-counted = ap entryOf (recordAt-counted entries-lie k p r s)
+  entryAt-counted = entryAt-same s (counted k p s) r (recordAt-counted entries-lie k p r s)
 
   pub copyBodyAt-counted : copyBodyAt r (counted k p s) ≡ copyBodyAt r s
-  unfolding copyBodyAt
-  copyBodyAt-counted = ap (part 48 32) (recordAt-counted entries-lie k p r s)
+  copyBodyAt-counted = copyBodyAt-same s (counted k p s) r (recordAt-counted entries-lie k p r s)
 
   pub entryAt-touched : (txn : ℕ) → entryAt r (touched k p txn s) ≡ entryAt r s
-  unfolding entryAt
-  entryAt-touched txn = ap entryOf (recordAt-touched entries-lie k p r s txn)
+  entryAt-touched txn = entryAt-same s (touched k p txn s) r (recordAt-touched entries-lie k p r s txn)
 
   pub copyBodyAt-touched : (txn : ℕ) → copyBodyAt r (touched k p txn s) ≡ copyBodyAt r s
-  unfolding copyBodyAt
-  copyBodyAt-touched txn = ap (part 48 32) (recordAt-touched entries-lie k p r s txn)
+  copyBodyAt-touched txn = copyBodyAt-same s (touched k p txn s) r (recordAt-touched entries-lie k p r s txn)

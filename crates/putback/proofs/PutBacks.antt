@@ -10,14 +10,12 @@ use lib.ListN.{take, drop}
 use lib.Dec.{eqb, leb}
 use borrow.Author.Tests.{eqb-true}
 use Rattle.ground.proofs.Ranges.{and-true-left}
-use Rattle.little.specs.Little.{part}
-use Rattle.little.proofs.Parts.{part-part}
 use Rattle.kind.specs.Kind.{entries}
-use Rattle.kind.specs.Place.{recordAt}
 use Rattle.records.specs.declared.slot.Slot.{Slot}
 use Rattle.records.specs.declared.entry.Entry.{Entry}
 use Rattle.records.specs.Slot.{slotAt}
 use Rattle.records.specs.Entry.{entryPlace, copyBodyAt}
+use Rattle.records.proofs.Bodies.{copyBodyAt-cut}
 use Rattle.chain.specs.declared.Link.{Link}
 use Rattle.chain.specs.declared.Link.the-variants.{End, Break, To}
 use Rattle.chain.specs.Chain.{Chain, onto, chainFrom, chainOf, linkOf}
@@ -47,21 +45,12 @@ module _ {m : Slot} {b : Bool} (n k r : ℕ) (d : List ℕ) (read : m ≡ slotAt
 
 -- ---- a copy is put back
 
--- the 32 bytes that the code cuts out behind the metadata of the copy in entry e are its body
-copy-cut : {at : ℕ} (e : ℕ) (u : List ℕ) → at ≡ entryPlace e → take (at + 48 + 32 - (at + 48)) (drop (at + 48) u) ≡ copyBodyAt e u
-unfolding copyBodyAt recordAt part
-copy-cut {at} e u found =
-    let w : at + 48 + 32 - (at + 48) ≡ 32 = omega arith in
-    ap (λ (n : ℕ). take n (drop (at + 48) u)) w
-    ∙ ap (λ (n : ℕ). take 32 (drop (n + 48) u)) found
-    ∙ sym (part-part 48 32 (entryPlace e) 80 u (omega arith))
-
 pub put-back : {at : ℕ} {x : Slot} {y : List ℕ} (n r e : ℕ) (m : Slot) (d u : List ℕ)
     → at ≡ entryPlace e
     → x ≡ unexpired m
     → y ≡ withSlot n r x (take (at + 48 + 32 - (at + 48)) (drop (at + 48) u)) d
     → y ≡ withSlot n r (unexpired m) (copyBodyAt e u) d
-put-back n r e m d u found is h = h ∙ ap₂ (λ (x : Slot) (body : List ℕ). withSlot n r x body d) is (copy-cut e u found)
+put-back n r e m d u found is h = h ∙ ap₂ (λ (x : Slot) (body : List ℕ). withSlot n r x body d) is (copyBodyAt-cut e u found)
 
 -- ---- behind a slot that S made
 

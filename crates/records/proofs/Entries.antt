@@ -146,15 +146,23 @@ pub clearEntry-within : (e : ℕ) (u : List ℕ) → WithinEntry e u (clearEntry
 unfolding clearEntry
 clearEntry-within e u = within-front entries-lie e u (replicate 80 0) (omega (arith, length-replicate {A = ℕ} 80 0))
 
--- another entry is as it was
+-- where its bytes are as they were, an entry is
+module _ (u y : List ℕ) (t : ℕ) (same : entryBytes t y ≡ entryBytes t u) where
+  pub entryAt-same : entryAt t y ≡ entryAt t u
+  unfolding entryAt
+  entryAt-same = ap entryOf same
+
+  pub copyBodyAt-same : copyBodyAt t y ≡ copyBodyAt t u
+  unfolding copyBodyAt
+  copyBodyAt-same = ap (part 48 32) same
+
+-- another entry is
 module _ {e : ℕ} {u y : List ℕ} (w : WithinEntry e u y) (t : ℕ) (ne : t ≡ e → ⊥) where
   pub entryAt-within-other : entryAt t y ≡ entryAt t u
-  unfolding entryAt
-  entryAt-within-other = ap entryOf (within-other entries-lie w t ne)
+  entryAt-within-other = entryAt-same u y t (within-other entries-lie w t ne)
 
   pub copyBodyAt-within-other : copyBodyAt t y ≡ copyBodyAt t u
-  unfolding copyBodyAt
-  copyBodyAt-within-other = ap (part 48 32) (within-other entries-lie w t ne)
+  copyBodyAt-within-other = copyBodyAt-same u y t (within-other entries-lie w t ne)
 
 -- ---- reading what was put
 

@@ -1,2 +1,4 @@
 pub mod Slots
 pub mod Entries
+pub mod Bodies
+pub mod Fits

@@ -151,15 +151,23 @@ unfolding clearSlot
 clearSlot-within r s =
     within-front slots-lie r s (replicate 64 0) (omega (arith, length-replicate {A = ℕ} 64 0))
 
--- another row is as it was
+-- where the bytes of its slot are as they were, a row is
+module _ (s y : List ℕ) (t : ℕ) (same : slotBytes t y ≡ slotBytes t s) where
+  pub slotAt-same : slotAt t y ≡ slotAt t s
+  unfolding slotAt
+  slotAt-same = ap slotOf same
+
+  pub bodyAt-same : bodyAt t y ≡ bodyAt t s
+  unfolding bodyAt
+  bodyAt-same = ap (part 32 32) same
+
+-- another row is
 module _ {r : ℕ} {s y : List ℕ} (w : WithinSlot r s y) (t : ℕ) (ne : t ≡ r → ⊥) where
   pub slotAt-within-other : slotAt t y ≡ slotAt t s
-  unfolding slotAt
-  slotAt-within-other = ap slotOf (within-other slots-lie w t ne)
+  slotAt-within-other = slotAt-same s y t (within-other slots-lie w t ne)
 
   pub bodyAt-within-other : bodyAt t y ≡ bodyAt t s
-  unfolding bodyAt
-  bodyAt-within-other = ap (part 32 32) (within-other slots-lie w t ne)
+  bodyAt-within-other = bodyAt-same s y t (within-other slots-lie w t ne)
 
 -- ---- reading what was put
 

@@ -1,5 +1,4 @@
 pub mod Apart
-pub mod Fits
 pub mod Gone
 pub mod Rows
 pub mod Runs

@@ -1,17 +1,13 @@
 -- Writing and freeing leave areas their length, and bytes bytes. Assumes nothing.
 use mathlib.Core.Path.{refl, _∙_}
-use mathlib.Core.List.{List, _++_}
-use Prim.Native.Nat.{ℕ, _/_}
-use lib.Seq.{length-sets}
-use Rattle.little.specs.Little.{bytesOf, Bytes}
-use Rattle.little.proofs.AllBytes.{bytes-sets, bytes-append, bytes-bytesOf}
-use Rattle.kind.specs.Kind.{dataKind}
+use mathlib.Core.List.{List}
+use Prim.Native.Nat.{ℕ}
+use Rattle.little.specs.Little.{Bytes}
 use Rattle.records.specs.declared.slot.Slot.{Slot}
-use Rattle.records.specs.Slot.{slotFields, slotPlace, putSlot, putMeta}
 use Rattle.records.proofs.Slots.{slots-lie}
 use Rattle.records.proofs.Entries.{entries-lie}
-use Rattle.page.proofs.Counts.{length-touched, bytes-touched}
 use Rattle.touching.specs.Touching.{withSlot, withMeta}
+use Rattle.touching.proofs.Touchings.{length-withMeta, length-withSlot, bytes-withMeta, bytes-withSlot}
 use Rattle.freeing.specs.Freeing.{withoutSlot, withoutEntry, sweptSlot, sweptEntry, cutSlot, cutCopy}
 use Rattle.freeing.proofs.Freeings.{length-stored, withoutSlot-is, sweptSlot-is, cutSlot-is, withoutEntry-is, sweptEntry-is, cutCopy-is, bytes-withoutSlot, bytes-sweptSlot, bytes-cutSlot, bytes-withoutEntry, bytes-sweptEntry, bytes-cutCopy}
 use Rattle.strands.specs.Strands.{Shaped}
@@ -36,26 +32,10 @@ module _ (r : ℕ) (d : List ℕ) where
   shaped-cutSlot m = record { long = length-stored slots-lie (cutSlot-is r m d); bytes = λ b. bytes-cutSlot r d b m }
 
   pub shaped-withMeta : (txn : ℕ) (m : Slot) → Shaped d (withMeta txn r m d)
-  unfolding withMeta putMeta
-  shaped-withMeta txn m =
-      record {
-        long = length-touched dataKind (r / 127) txn (putMeta r m d) ∙ length-sets d (slotPlace r) (bytesOf (slotFields m));
-        bytes =
-            λ b.
-            bytes-touched dataKind (r / 127) txn (putMeta r m d)
-            (bytes-sets (bytesOf (slotFields m)) d (slotPlace r) (bytes-bytesOf (slotFields m)) b);
-      }
+  shaped-withMeta txn m = record { long = length-withMeta txn r m d; bytes = bytes-withMeta txn r m d }
 
   pub shaped-withSlot : (txn : ℕ) (m : Slot) (body : List ℕ) → Bytes body → Shaped d (withSlot txn r m body d)
-  unfolding withSlot putSlot
-  shaped-withSlot txn m body own =
-      record {
-        long = length-touched dataKind (r / 127) txn (putSlot r m body d) ∙ length-sets d (slotPlace r) (bytesOf (slotFields m) ++ body);
-        bytes =
-            λ b.
-            bytes-touched dataKind (r / 127) txn (putSlot r m body d)
-            (bytes-sets (bytesOf (slotFields m) ++ body) d (slotPlace r) (bytes-append (bytesOf (slotFields m)) body (bytes-bytesOf (slotFields m)) own) b);
-      }
+  shaped-withSlot txn m body own = record { long = length-withSlot txn r m d body; bytes = bytes-withSlot txn r m d body own }
 
 -- ---- the undo area
 

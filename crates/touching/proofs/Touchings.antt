@@ -5,21 +5,22 @@ use mathlib.Core.List.{List}
 use Prim.Native.Nat.{ℕ, _/_, _<_}
 use native.Mathlib.Omega.{arith}
 use lib.ListN.{length}
-use Rattle.little.specs.Little.{part}
+use Rattle.little.specs.Little.{Bytes}
 use Rattle.kind.specs.declared.Kind.{Kind}
 use Rattle.kind.specs.Kind.{rows, entries, dataKind, undoKind}
 use Rattle.kind.specs.Place.{recordAt}
 use Rattle.kind.proofs.Places.{Lie, Within, within-other, within-page, length-within}
 use Rattle.records.specs.declared.slot.Slot.{Slot}
 use Rattle.records.specs.declared.entry.Entry.{Entry}
-use Rattle.records.specs.Slot.{slotOf, slotAt, bodyAt, putSlot, putMeta}
-use Rattle.records.specs.Entry.{entryOf, entryAt, copyBodyAt, putEntry}
-use Rattle.records.proofs.Slots.{SlotFit, slots-lie, putSlot-within, putMeta-within, slotAt-putSlot-same, bodyAt-putSlot-same, slotAt-putMeta-same, bodyAt-putMeta-same}
-use Rattle.records.proofs.Entries.{EntryFit, entries-lie, putEntry-within, entryAt-putEntry-same, copyBodyAt-putEntry-same}
+use Rattle.records.specs.Slot.{slotAt, bodyAt, putSlot, putMeta}
+use Rattle.records.specs.Entry.{entryAt, copyBodyAt, putEntry}
+use Rattle.records.proofs.Slots.{SlotFit, slots-lie, slotAt-same, bodyAt-same, putSlot-within, putMeta-within, slotAt-putSlot-same, bodyAt-putSlot-same, slotAt-putMeta-same, bodyAt-putMeta-same}
+use Rattle.records.proofs.Entries.{EntryFit, entries-lie, entryAt-same, copyBodyAt-same, putEntry-within, entryAt-putEntry-same, copyBodyAt-putEntry-same}
+use Rattle.records.proofs.Fits.{length-putSlot, bytes-putMeta, bytes-putSlot}
 use Rattle.page.specs.Header.{pageAt, txnId, itemCount}
 use Rattle.page.specs.Count.{itemsIn, counted, touched}
 use Rattle.page.proofs.Headers.{pageAt-putField-other}
-use Rattle.page.proofs.Counts.{length-touched, recordAt-touched, slotAt-touched, bodyAt-touched, entryAt-touched, copyBodyAt-touched}
+use Rattle.page.proofs.Counts.{length-touched, bytes-touched, recordAt-touched, slotAt-touched, bodyAt-touched, entryAt-touched, copyBodyAt-touched}
 use Rattle.touching.specs.Touching.{withSlot, withMeta, withEntry}
 
 -- ---- what the functions compute: y is the area written, z the area touched
@@ -90,22 +91,18 @@ WrittenEntry = Written 80 101
 -- another row is as it was
 module _ {r : ℕ} {d y : List ℕ} (w : WrittenSlot r d y) (t : ℕ) (ne : t ≡ r → ⊥) where
   pub slotAt-written-other : slotAt t y ≡ slotAt t d
-  unfolding slotAt
-  slotAt-written-other = ap slotOf (record-other slots-lie w t ne)
+  slotAt-written-other = slotAt-same d y t (record-other slots-lie w t ne)
 
   pub bodyAt-written-other : bodyAt t y ≡ bodyAt t d
-  unfolding bodyAt
-  bodyAt-written-other = ap (part 32 32) (record-other slots-lie w t ne)
+  bodyAt-written-other = bodyAt-same d y t (record-other slots-lie w t ne)
 
 -- another entry is as it was
 module _ {e : ℕ} {u y : List ℕ} (w : WrittenEntry e u y) (t : ℕ) (ne : t ≡ e → ⊥) where
   pub entryAt-written-other : entryAt t y ≡ entryAt t u
-  unfolding entryAt
-  entryAt-written-other = ap entryOf (record-other entries-lie w t ne)
+  entryAt-written-other = entryAt-same u y t (record-other entries-lie w t ne)
 
   pub copyBodyAt-written-other : copyBodyAt t y ≡ copyBodyAt t u
-  unfolding copyBodyAt
-  copyBodyAt-written-other = ap (part 48 32) (record-other entries-lie w t ne)
+  copyBodyAt-written-other = copyBodyAt-same u y t (record-other entries-lie w t ne)
 
 -- ---- the three writes are such stores, and what was put is read
 
@@ -151,3 +148,22 @@ module _ (txn e : ℕ) (m : Entry) (body u : List ℕ) (long : length body ≡ 3
   pub copyBodyAt-withEntry : e < entries u → copyBodyAt e (withEntry txn e m body u) ≡ body
   unfolding withEntry
   copyBodyAt-withEntry here = copyBodyAt-touched undoKind (e / 101) e (putEntry e m body u) txn ∙ copyBodyAt-putEntry-same e m body u here long
+
+-- ---- length and bytes stay, whatever body is written
+
+module _ (txn r : ℕ) (m : Slot) (d : List ℕ) where
+  pub length-withMeta : length (withMeta txn r m d) ≡ length d
+  length-withMeta = length-written slots-lie (withMeta-written txn r m d)
+
+  pub bytes-withMeta : Bytes d → Bytes (withMeta txn r m d)
+  unfolding withMeta
+  bytes-withMeta b = bytes-touched dataKind (r / 127) txn (putMeta r m d) (bytes-putMeta r d b m)
+
+  module _ (body : List ℕ) where
+    pub length-withSlot : length (withSlot txn r m body d) ≡ length d
+    unfolding withSlot
+    length-withSlot = length-touched dataKind (r / 127) txn (putSlot r m body d) ∙ length-putSlot r m body d
+
+    pub bytes-withSlot : Bytes body → Bytes d → Bytes (withSlot txn r m body d)
+    unfolding withSlot
+    bytes-withSlot own b = bytes-touched dataKind (r / 127) txn (putSlot r m body d) (bytes-putSlot r d b m body own)

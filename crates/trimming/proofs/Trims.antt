@@ -23,7 +23,7 @@ use Rattle.freeing.proofs.Freeings.{slotAt-stored-other, bodyAt-stored-other, s
 use Rattle.strands.specs.Strands.{Frees, Keeps, Shaped, Treated, RowIn, entryIn, Step, Strand, front, having, onLast}
 use Rattle.strands.proofs.Strands.{sweptEntry-frees}
 use Rattle.strands.proofs.Apart.{chainOf-treated}
-use Rattle.strands.proofs.Fits.{fit-slot, slotAt-fit, copy-fit}
+use Rattle.records.proofs.Fits.{fit-slot, slotAt-fit, copy-fit}
 use Rattle.strands.proofs.Rows.{treated-refl}
 use Rattle.strands.proofs.Shapes.{shaped-refl, shaped-trans, shaped-sweptSlot, shaped-cutSlot, shaped-sweptEntry, shaped-cutCopy}
 use Rattle.strands.proofs.Runs.{link-zero, link-end, step-place, step-inside, step-slot, step-kept, step-cut, strand-freed, keeps-refl, keeps-fewer, keeps-first, keeps-freed, keeps-cut, chain-strand, chain-few, chainOf-empty, chainOf-used, chainOf-strand}

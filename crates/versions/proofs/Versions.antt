@@ -8,21 +8,19 @@ use native.Mathlib.Omega.{arith}
 use lib.ListN.{length}
 use lib.Dec.{eqb}
 use borrow.Author.Tests.{eqb-true, eqb-false, eq-eqb, ne-eqb}
-use Rattle.little.specs.Little.{Bytes}
-use Rattle.little.proofs.Parts.{length-part}
-use Rattle.little.proofs.AllBytes.{bytes-part, little-part-below}
 use Rattle.kind.specs.Kind.{pages, rows, entries}
-use Rattle.kind.specs.Place.{recordAt}
 use Rattle.pointer.specs.declared.Lead.{Lead}
 use Rattle.pointer.specs.declared.Lead.the-variants.{Nowhere as None, Entry as ToEntry, Astray}
 use Rattle.pointer.specs.Pointer.{leadOf, pointerTo}
 use Rattle.pointer.proofs.PointerLaws.{leadOf-pointerTo, leadOf-zero, pointerTo-below}
 use Rattle.records.specs.declared.slot.Slot.{Slot}
 use Rattle.records.specs.declared.entry.Entry.{Entry}
-use Rattle.records.specs.Slot.{slotOf, slotPlace, slotBytes, slotAt, bodyAt}
+use Rattle.records.specs.Slot.{slotAt, bodyAt}
 use Rattle.records.specs.Entry.{entryAt}
-use Rattle.records.proofs.Slots.{SlotFit, slots-lie, slot-inside}
+use Rattle.records.proofs.Slots.{SlotFit, slots-lie}
 use Rattle.records.proofs.Entries.{entries-lie}
+use Rattle.records.proofs.Bodies.{length-bodyAt}
+use Rattle.records.proofs.Fits.{fit-slot, slotAt-fit}
 use Rattle.chain.specs.declared.Place.the-variants.{Data, Undo}
 use Rattle.chain.specs.declared.Link.{Link}
 use Rattle.chain.specs.declared.Link.the-variants.{End, Break, To}
@@ -89,22 +87,6 @@ chainOf-first d u r used =
     ∙ ap (onto (record { place = Data r; slot = slotAt r d })) (sym (older-used d u r (slotAt r d) refl used))
 
 -- ---- what is written fits its fields
-
-fit-slot : (m : Slot) → m .create < 2 ^ 64 → m .expire < 2 ^ 64 → m .«undo_ptr» < 2 ^ 64 → m .cmd < 2 ^ 32 → m .«expire_cmd» < 2 ^ 32 → SlotFit m
-fit-slot m a b p x y = (a, (b, (p, (x, (y, tt)))))
-
--- what is read from bytes does
-slotAt-fit : (r : ℕ) (d : List ℕ) → Bytes d → r < rows d → SlotFit (slotAt r d)
-unfolding slotAt slotOf recordAt
-slotAt-fit r d b h =
-    let own : Bytes (slotBytes r d) = bytes-part (slotPlace r) 64 d b in
-    let long : length (slotBytes r d) ≡ 64 = length-part (slotPlace r) 64 d (slot-inside r d h) in
-    fit-slot (slotAt r d)
-    (little-part-below 0 8 (slotBytes r d) own (omega arith))
-    (little-part-below 8 8 (slotBytes r d) own (omega arith))
-    (little-part-below 16 8 (slotBytes r d) own (omega arith))
-    (little-part-below 24 4 (slotBytes r d) own (omega arith))
-    (little-part-below 28 4 (slotBytes r d) own (omega arith))
 
 module _ {n c r : ℕ} {d : List ℕ} (f : Fits n c r d) where
   made-fit : (ptr : ℕ) → ptr < 2 ^ 64 → SlotFit (made n c ptr)
@@ -306,11 +288,6 @@ module _ {r e : ℕ} {u u' : List ℕ} (k : Taken r e u u') where
                 ∙ ap (onto (copyOf q m)) (g q m (more-passed q) (sym (ap (λ (x : Chain). x .whole) on-u) ∙ w))
                 ∙ sym on-u
 
-length-body : (r : ℕ) (d : List ℕ) → r < rows d → length (bodyAt r d) ≡ 32
-unfolding bodyAt recordAt
-length-body r d h =
-    length-part 32 32 (slotBytes r d) (omega (arith, length-part (slotPlace r) 64 d (slot-inside r d h)))
-
 -- "The slot then has create = S, expire 0, a pointer to the entry": data' and undo' are what update leaves
 module _ (n c r e : ℕ) (body d u : List ℕ) (f : Fits n c r d) (g : Takes r e u) (long : length body ≡ 32) where
   abbrev entry : Entry
@@ -327,7 +304,7 @@ module _ (n c r e : ℕ) (body d u : List ℕ) (f : Fits n c r d) (g : Takes r e
 
   entry-is : entryAt e undo' ≡ entry
   unfolding updatedUndo
-  entry-is = entryAt-withEntry n e entry (bodyAt r d) u (length-body r d (f .row)) (g .here) (f .number, (g .row, (omega arith, expired-fit f)))
+  entry-is = entryAt-withEntry n e entry (bodyAt r d) u (length-bodyAt r d (f .row)) (g .here) (f .number, (g .row, (omega arith, expired-fit f)))
 
   slot-is : slotAt r data' ≡ slot
   unfolding updatedData
@@ -336,7 +313,7 @@ module _ (n c r e : ℕ) (body d u : List ℕ) (f : Fits n c r d) (g : Takes r e
   taken : Taken r e u undo'
   unfolding updatedUndo
   taken =
-      let w : WrittenEntry e u undo' = withEntry-written n e entry (bodyAt r d) u (length-body r d (f .row)) in
+      let w : WrittenEntry e u undo' = withEntry-written n e entry (bodyAt r d) u (length-bodyAt r d (f .row)) in
       record {
         size = ap (λ (x : ℕ). x / 8192) (length-written entries-lie w);
         free = g .free;

@@ -1,27 +1,15 @@
 -- What the functions compute, from what their callees ensure: `at` is the place of the slot that they found, `old` the metadata that
 -- they read there. Assumes nothing.
-use mathlib.Core.Path.{_≡_, sym, ap, ap₂, _∙_}
+use mathlib.Core.Path.{_≡_, ap, ap₂, _∙_}
 use mathlib.Core.List.{List}
 use Prim.Native.Nat.{ℕ, _+_, _-_}
-use native.Mathlib.Omega.{arith}
 use lib.ListN.{take, drop}
-use Rattle.little.specs.Little.{part}
-use Rattle.little.proofs.Parts.{part-part}
-use Rattle.kind.specs.Place.{recordAt}
 use Rattle.pointer.specs.Pointer.{pointerTo}
 use Rattle.records.specs.declared.slot.Slot.{Slot}
-use Rattle.records.specs.Slot.{slotPlace, slotAt, bodyAt}
+use Rattle.records.specs.Slot.{slotPlace, slotAt}
+use Rattle.records.proofs.Bodies.{bodyAt-cut}
 use Rattle.touching.specs.Touching.{withSlot, withMeta, withEntry}
 use Rattle.writing.specs.Writing.{made, expired, updatedUndo, updatedData, deleted}
-
--- the 32 bytes that the code cuts out behind the metadata of row r are its body
-body-cut : {at : ℕ} (r : ℕ) (d : List ℕ) → at ≡ slotPlace r → take (at + 32 + 32 - (at + 32)) (drop (at + 32) d) ≡ bodyAt r d
-unfolding bodyAt recordAt part
-body-cut {at} r d found =
-    let w : at + 32 + 32 - (at + 32) ≡ 32 = omega arith in
-    ap (λ (n : ℕ). take n (drop (at + 32) d)) w
-    ∙ ap (λ (n : ℕ). take 32 (drop (n + 32) d)) found
-    ∙ sym (part-part 32 32 (slotPlace r) 64 d (omega arith))
 
 module _ {old x : Slot} (n c r : ℕ) (d : List ℕ) (read : old ≡ slotAt r d) (ends : x ≡ expired n c old) where
   pub deleted-written : {y : List ℕ} → y ≡ withMeta n r x d → y ≡ deleted n c r d
@@ -37,7 +25,7 @@ module _ {old x : Slot} (n c r : ℕ) (d : List ℕ) (read : old ≡ slotAt r d)
       h
       ∙ ap₂ (λ (m : Slot) (body : List ℕ). withEntry n e (record { writer = n; row = r; copy = m }) body u)
       (ends ∙ ap (expired n c) read)
-      (body-cut r d found)
+      (bodyAt-cut r d found)
 
 pub updatedData-written : {ptr : ℕ} {y : List ℕ} (n c r e : ℕ) (body d : List ℕ)
     → ptr ≡ pointerTo e
