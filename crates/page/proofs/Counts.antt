@@ -34,7 +34,7 @@ unfolding counted putField
 counted-store k p s n h q = q ∙ ap (λ (v : ℕ). sets s (p * 8192 + 38) (digits 2 v)) (h ∙ ap (itemsIn k) (pageAt-lent p s))
 
 -- record i of page p is in use where its first 8 bytes, as record of the area, are not 0
-pub inUse-recordAt : {size count : ℕ} → Lie 8192 size count → 8 ≤ size → (p i : ℕ) (s : List ℕ) → i < count
+inUse-recordAt : {size count : ℕ} → Lie 8192 size count → 8 ≤ size → (p i : ℕ) (s : List ℕ) → i < count
     → inUse size (pageAt p s) i ≡ not (eqb (little (part 0 8 (recordAt 8192 size count (numberOf count p i) s))) 0)
 unfolding inUse pageAt recordAt
 inUse-recordAt {size} {count} lie wide p i s h =
@@ -45,19 +45,28 @@ inUse-recordAt {size} {count} lie wide p i s h =
     ∙ ap (λ (n : ℕ). part n 8 s) (sym here)
     ∙ sym (part-part 0 8 at size s wide))
 
+-- which are a slot's create, and an entry's writer
+pub inUse-slot : (p i : ℕ) (d : List ℕ) → i < 127 → inUse 64 (pageAt p d) i ≡ not (eqb (slotAt (numberOf 127 p i) d .create) 0)
+unfolding slotAt slotOf
+inUse-slot p i d h = inUse-recordAt slots-lie (omega arith) p i d h
+
+pub inUse-entry : (p i : ℕ) (u : List ℕ) → i < 101 → inUse 80 (pageAt p u) i ≡ not (eqb (entryAt (numberOf 101 p i) u .writer) 0)
+unfolding entryAt entryOf
+inUse-entry p i u h = inUse-recordAt entries-lie (omega arith) p i u h
+
 -- "its slots with create not 0"
 pub itemsIn-data : (p : ℕ) (s : List ℕ) → itemsIn dataKind (pageAt p s) ≡ countBelow (λ (i : ℕ). not (eqb (slotAt (numberOf 127 p i) s .create) 0)) 127
-unfolding itemsIn slotAt slotOf
+unfolding itemsIn
 itemsIn-data p s =
     count-agree (inUse 64 (pageAt p s)) (λ (i : ℕ). not (eqb (slotAt (numberOf 127 p i) s .create) 0)) 127
-    (λ i h. inUse-recordAt slots-lie (omega arith) p i s h)
+    (λ i h. inUse-slot p i s h)
 
 -- "its entries with writer not 0"
 pub itemsIn-undo : (p : ℕ) (u : List ℕ) → itemsIn undoKind (pageAt p u) ≡ countBelow (λ (i : ℕ). not (eqb (entryAt (numberOf 101 p i) u .writer) 0)) 101
-unfolding itemsIn entryAt entryOf
+unfolding itemsIn
 itemsIn-undo p u =
     count-agree (inUse 80 (pageAt p u)) (λ (i : ℕ). not (eqb (entryAt (numberOf 101 p i) u .writer) 0)) 101
-    (λ i h. inUse-recordAt entries-lie (omega arith) p i u h)
+    (λ i h. inUse-entry p i u h)
 
 -- ---- touching
 

@@ -14,15 +14,13 @@ use Rattle.ground.proofs.Ranges.{first-here, first-next, first-end, first-le, f
 use Rattle.little.specs.Little.{little, part}
 use Rattle.kind.specs.declared.Kind.{Kind}
 use Rattle.kind.specs.Kind.{dataKind, undoKind, pages, rows, entries}
-use Rattle.kind.specs.Place.{recordAt}
-use Rattle.kind.proofs.Places.{Lie, multiple-more}
-use Rattle.records.specs.Slot.{slotOf, slotAt}
-use Rattle.records.specs.Entry.{entryOf, entryAt}
-use Rattle.records.proofs.Slots.{slots-lie}
-use Rattle.records.proofs.Entries.{entries-lie}
+use Rattle.kind.proofs.Places.{multiple-more}
+use Rattle.records.specs.Slot.{slotAt}
+use Rattle.records.specs.Entry.{entryAt}
 use Rattle.page.specs.Header.{pageAt}
 use Rattle.page.specs.Count.{inUse}
-use Rattle.page.proofs.Counts.{inUse-recordAt}
+use Rattle.page.proofs.Headers.{pageAt-lent}
+use Rattle.page.proofs.Counts.{inUse-slot, inUse-entry}
 use Rattle.vacant.specs.Vacant.{lowestEmpty, lowestFree, lowestIn, lowest}
 
 -- ---- a search in parts
@@ -101,10 +99,8 @@ idleAt-numberOf k s p i h =
 lowestIn-lent : {i : ℕ} (k : Kind) (p : ℕ) (s : List ℕ)
     → i ≡ lowestIn k (take (p * 8192 + 8192 - p * 8192) (drop (p * 8192) s))
     → i ≡ firstFrom (idle (k .size) (pageAt p s)) 0 (k .count)
-unfolding lowestIn pageAt part
-lowestIn-lent k p s h =
-    let e : p * 8192 + 8192 - p * 8192 ≡ 8192 = omega arith in
-    h ∙ ap (λ (m : ℕ). lowestIn k (take m (drop (p * 8192) s))) e
+unfolding lowestIn
+lowestIn-lent k p s h = h ∙ ap (lowestIn k) (pageAt-lent p s)
 
 -- the numbers of records fit a machine's
 pub number-fits : (p count : ℕ) → p ≤ 65536 → count ≤ 8144 → p * count ≤ 533725184
@@ -147,27 +143,29 @@ not-not : (b : Bool) → not (not b) ≡ b
 not-not true = refl
 not-not false = refl
 
--- the first 8 bytes of record r
-idleAt-recordAt : {size count : ℕ} → Lie 8192 size count → 8 ≤ size → (r : ℕ) (s : List ℕ) → r % count < count → r / count * count + r % count ≡ r
-    → not (inUse size (pageAt (r / count) s) (r % count)) ≡ eqb (little (part 0 8 (recordAt 8192 size count r s))) 0
-idleAt-recordAt {size} {count} lie wide r s l e =
-    ap not (inUse-recordAt lie wide (r / count) (r % count) s l)
-    ∙ not-not _
-    ∙ ap (λ (n : ℕ). eqb (little (part 0 8 (recordAt 8192 size count n s))) 0) e
-
 -- "Create 0 means empty"
 pub lowest-data : (d : List ℕ) → lowest dataKind d ≡ lowestEmpty d
-unfolding lowest lowestEmpty slotAt slotOf
-lowest-data d =
-    first-agree (idleAt dataKind d) (λ (r : ℕ). eqb (slotAt r d .create) 0) 0 (rows d)
-    (λ r h. idleAt-recordAt slots-lie (omega arith) r d (omega arith) (omega arith))
+unfolding lowest lowestEmpty
+lowest-data d = first-agree (idleAt dataKind d) (λ (r : ℕ). eqb (slotAt r d .create) 0) 0 (rows d) (λ r h. empty r)
+  where
+    empty : (r : ℕ) → idleAt dataKind d r ≡ eqb (slotAt r d .create) 0
+    empty r =
+        let e : r / 127 * 127 + r % 127 ≡ r = omega arith in
+        ap not (inUse-slot (r / 127) (r % 127) d (omega arith))
+        ∙ not-not (eqb (slotAt (r / 127 * 127 + r % 127) d .create) 0)
+        ∙ ap (λ (n : ℕ). eqb (slotAt n d .create) 0) e
 
 -- "writer (8; 0 means free)"
 pub lowest-undo : (u : List ℕ) → lowest undoKind u ≡ lowestFree u
-unfolding lowest lowestFree entryAt entryOf
-lowest-undo u =
-    first-agree (idleAt undoKind u) (λ (e : ℕ). eqb (entryAt e u .writer) 0) 0 (entries u)
-    (λ r h. idleAt-recordAt entries-lie (omega arith) r u (omega arith) (omega arith))
+unfolding lowest lowestFree
+lowest-undo u = first-agree (idleAt undoKind u) (λ (e : ℕ). eqb (entryAt e u .writer) 0) 0 (entries u) (λ e h. free e)
+  where
+    free : (e : ℕ) → idleAt undoKind u e ≡ eqb (entryAt e u .writer) 0
+    free e =
+        let is : e / 101 * 101 + e % 101 ≡ e = omega arith in
+        ap not (inUse-entry (e / 101) (e % 101) u (omega arith))
+        ∙ not-not (eqb (entryAt (e / 101 * 101 + e % 101) u .writer) 0)
+        ∙ ap (λ (n : ℕ). eqb (entryAt n u .writer) 0) is
 
 -- ---- what a caller knows of the number it gets
 
