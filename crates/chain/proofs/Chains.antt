@@ -1,18 +1,15 @@
 -- The walk that counts its steps finds what the chain, which keeps the entries passed, has first: once, over any test of a version
 -- ("01, Sessions and sight"). Assumes nothing.
 use mathlib.Core.Path.{_≡_, refl, sym, ap, _∙_}
-use mathlib.Core.Logic.{_⊎_, inl, inr, ⊎-elim}
-use mathlib.Core.Bool.{Bool, true, false, _||_, cond}
+use mathlib.Core.Logic.{_⊎_, ⊎-elim}
+use mathlib.Core.Bool.{Bool, true, false, _||_, cond, false≢true}
 use mathlib.Core.List.{List, [], _∷_}
 use Prim.Native.Nat.{ℕ, zero, suc, _+_, _-_, _≤_, _<_}
 use native.Mathlib.Omega.{arith}
-use lib.Dec.{eqb}
-use borrow.Author.Tests.{eqb-true, eq-eqb}
-use Rattle.kind.specs.Kind.{pages, entries}
+use Rattle.kind.specs.Kind.{pages}
 use Rattle.pointer.specs.declared.Lead.{Lead}
 use Rattle.pointer.specs.declared.Lead.the-variants.{Nowhere as None, Entry as ToEntry, Astray}
 use Rattle.pointer.specs.Pointer.{leadOf}
-use Rattle.pointer.proofs.PointerLaws.{leadOf-inside}
 use Rattle.records.specs.declared.slot.Slot.{Slot}
 use Rattle.records.specs.declared.entry.Entry.{Entry}
 use Rattle.records.specs.Entry.{entryAt}
@@ -23,49 +20,7 @@ use Rattle.chain.specs.declared.Walk.{Walk}
 use Rattle.chain.specs.declared.Walk.the-variants.{Found, Absent, Broken}
 use Rattle.chain.specs.Chain.{Version, Chain, ended, onto, among, unfit, along, chainFrom, linkAt, linkOf}
 use Rattle.chain.specs.Walk.{firstIn, endOf}
-
--- ---- one step, as the code takes it: `lead` is where it found the pointer to lead
-
-module _ {lead : Lead} (u : List ℕ) (r ptr : ℕ) (is : lead ≡ leadOf (pages u) ptr) where
-  pub link-end : lead ≡ None → End ≡ linkOf u r ptr
-  unfolding linkOf
-  link-end h = ap (linkAt u r) (sym h ∙ is)
-
-  pub link-astray : lead ≡ Astray → Break ≡ linkOf u r ptr
-  unfolding linkOf
-  link-astray h = ap (linkAt u r) (sym h ∙ is)
-
-  module _ {m : Entry} (e : ℕ) (to : lead ≡ ToEntry e) (read : m ≡ entryAt e u) where
-    entry-link : linkOf u r ptr ≡ cond (unfit r m) Break (To e m)
-    unfolding linkOf
-    entry-link = rw read (ap (linkAt u r) (sym is ∙ to))
-
-    pub link-unfit : unfit r m ≡ true → Break ≡ linkOf u r ptr
-    link-unfit h = rw (entry-link, h)
-
-    pub link-to : unfit r m ≡ false → To e m ≡ linkOf u r ptr
-    link-to h = rw (entry-link, h)
-
--- what a pointer leads to is an entry of the area, and the one that stands there
-pub record Real (u : List ℕ) (e : ℕ) (m : Entry) : Type 0 where
-  pub inside : e < entries u
-  pub stands : m ≡ entryAt e u
-
-pub link-real : (u : List ℕ) (r ptr e : ℕ) (m : Entry) → linkOf u r ptr ≡ To e m → Real u e m
-unfolding linkOf
-link-real u r ptr e m h = by (leadOf (pages u) ptr) refl h
-  where
-    fit : (t : Bool) (q : ℕ) → leadOf (pages u) ptr ≡ ToEntry q → cond t Break (To q (entryAt q u)) ≡ To e m → Real u e m
-    fit true q l k = let z : _≡_ {A = ℕ} 0 1 = cc in absurd (omega arith)
-    fit false q l k =
-        let same : q ≡ e = cc in
-        let copied : entryAt q u ≡ m = cc in
-        record { inside = omega (arith, leadOf-inside (pages u) ptr q l); stands = sym copied ∙ ap (λ (x : ℕ). entryAt x u) same }
-
-    by : (l : Lead) → leadOf (pages u) ptr ≡ l → linkAt u r l ≡ To e m → Real u e m
-    by None l k = let z : _≡_ {A = ℕ} 0 1 = cc in absurd (omega arith)
-    by Astray l k = let z : _≡_ {A = ℕ} 0 1 = cc in absurd (omega arith)
-    by (ToEntry q) l k = fit (unfit r (entryAt q u)) q l k
+use Rattle.chain.proofs.Links.{link-real, among-cases, among-first, among-later}
 
 -- ---- the chain, link by link
 
@@ -227,26 +182,6 @@ module _ (u : List ℕ) (r : ℕ) (p : Slot → Bool) where
       (λ t j. ring ps e m h fuel (n + 1) t j))
 
   -- one more entry passed
-  among-cases : (q e : ℕ) (ps : List ℕ) → among q (e ∷ ps) ≡ true → (q ≡ e) ⊎ (among q ps ≡ true)
-  unfolding among
-  among-cases q e ps = by (eqb q e) refl
-    where
-      by : (t : Bool) → eqb q e ≡ t → t || among q ps ≡ true → (q ≡ e) ⊎ (among q ps ≡ true)
-      by true k h = inl (eqb-true q e k)
-      by false k h = inr h
-
-  among-first : (e : ℕ) (ps : List ℕ) → among e (e ∷ ps) ≡ true
-  unfolding among
-  among-first e ps = rw (eq-eqb e e refl)
-
-  among-later : (q e : ℕ) (ps : List ℕ) → among q ps ≡ true → among q (e ∷ ps) ≡ true
-  unfolding among
-  among-later q e ps h = by (eqb q e)
-    where
-      by : (t : Bool) → t || among q ps ≡ true
-      by true = refl
-      by false = h
-
   further : (ps : List ℕ) (e : ℕ) {l : Link} → Into ps (To e (entryAt e u)) l → Into (e ∷ ps) (linkOf u r (entryAt e u .copy .«undo_ptr»)) l
   further ps e here = back (among-first e ps)
   further ps e (back {q} k) = back (among-later q e ps k)
@@ -296,10 +231,7 @@ module _ (u : List ℕ) (r : ℕ) (p : Slot → Bool) where
   -- nothing has been passed yet
   none : (l : Link) → Passed [] l
   unfolding among
-  none l = record { fails = λ q k. absurd (never k); leads = λ q k. absurd (never k) }
-    where
-      never : false ≡ true → ⊥
-      never e = let z : _≡_ {A = ℕ} 0 1 = cc in omega arith
+  none l = record { fails = λ q k. absurd (false≢true k); leads = λ q k. absurd (false≢true k) }
 
   -- the agreement: the first version along a chain, by counting
   pub chain-run : (fuel n ptr : ℕ)

@@ -1,7 +1,7 @@
 -- Distinct entries are at most as many as there are, so the number of entries is fuel enough: with more of it a chain is the same.
 -- Assumes nothing.
 use mathlib.Core.Path.{_≡_, refl, sym, ap, _∙_}
-use mathlib.Core.Bool.{Bool, true, false, _||_, cond}
+use mathlib.Core.Bool.{Bool, true, false, _||_, cond, true≢false}
 use mathlib.Core.List.{List, [], _∷_}
 use Prim.Native.Nat.{ℕ, zero, suc, _+_, _≤_, _<_}
 use native.Mathlib.Nat.{zero-add, suc-add, add-zero}
@@ -14,20 +14,18 @@ use Rattle.records.specs.declared.entry.Entry.{Entry}
 use Rattle.chain.specs.declared.Link.{Link}
 use Rattle.chain.specs.declared.Link.the-variants.{End, Break, To}
 use Rattle.chain.specs.Chain.{ended, onto, among, chainFrom, linkOf}
-use Rattle.chain.proofs.Chains.{link-real, copyOf, chainFrom-end, chainFrom-break, chainFrom-passed, chainFrom-on, chainFrom-full}
+use Rattle.chain.proofs.Links.{link-real}
+use Rattle.chain.proofs.Chains.{copyOf, chainFrom-end, chainFrom-break, chainFrom-passed, chainFrom-on, chainFrom-full}
 
 -- ---- pigeons
 
-abbrev Distinct : List ℕ → Type 0
+abbrev pub Distinct : List ℕ → Type 0
 Distinct [] = Unit
 Distinct (p ∷ ps) = (among p ps ≡ false) × Distinct ps
 
-abbrev Below : ℕ → List ℕ → Type 0
+abbrev pub Below : ℕ → List ℕ → Type 0
 Below n [] = Unit
 Below n (p ∷ ps) = (p < n) × Below n ps
-
-true-false : true ≡ false → ⊥
-true-false e = let z : _≡_ {A = ℕ} 0 1 = cc in omega arith
 
 -- ps without x
 rid : ℕ → List ℕ → List ℕ
@@ -40,7 +38,7 @@ rid-none x [] h = refl
 rid-none x (p ∷ ps) h = by (eqb x p) (rid-none x ps) h
   where
     by : (t : Bool) → (among x ps ≡ false → rid x ps ≡ ps) → t || among x ps ≡ false → cond t (rid x ps) (p ∷ rid x ps) ≡ p ∷ ps
-    by true g k = absurd (true-false k)
+    by true g k = absurd (true≢false k)
     by false g k = ap (λ (r : List ℕ). p ∷ r) (g k)
 
 rid-long : (x : ℕ) (ps : List ℕ) → Distinct ps → length ps ≤ suc (length (rid x ps))
@@ -59,7 +57,7 @@ rid-among x q (p ∷ ps) h = by (eqb q p) (eqb x p) refl (rid-among x q ps) h
   where
     by : (t s : Bool) → eqb q p ≡ t → (among q ps ≡ false → among q (rid x ps) ≡ false) → t || among q ps ≡ false
         → among q (cond s (rid x ps) (p ∷ rid x ps)) ≡ false
-    by true s e g k = absurd (true-false k)
+    by true s e g k = absurd (true≢false k)
     by false true e g k = g k
     by false false e g k = rw e (g k)
 

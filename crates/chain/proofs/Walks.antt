@@ -7,7 +7,7 @@ use native.Mathlib.Nat.{sub-zero}
 use native.Mathlib.Omega.{arith}
 use lib.Dec.{eqb}
 use lib.ListN.{length}
-use borrow.Author.Tests.{eqb-true, eqb-false, eq-eqb, ne-eqb}
+use borrow.Author.Tests.{eqb-true, eqb-false}
 use Rattle.kind.specs.Kind.{rows, entries}
 use Rattle.desk.specs.declared.View.{View}
 use Rattle.sight.specs.declared.Stamp.{Stamp}
@@ -22,26 +22,12 @@ use Rattle.chain.specs.declared.Link.{Link}
 use Rattle.chain.specs.declared.Link.the-variants.{End, Break, To}
 use Rattle.chain.specs.declared.Walk.{Walk}
 use Rattle.chain.specs.declared.Walk.the-variants.{Found, Absent, Broken}
-use Rattle.chain.specs.Chain.{Version, Chain, ended, onto, chainFrom, chainOf, linkOf, among}
+use Rattle.chain.specs.Chain.{Version, Chain, chainFrom, chainOf, linkOf, among}
 use Rattle.chain.specs.Walk.{stampOf, thereIn, firstIn, walkRule, followRule, bodyOf}
-use Rattle.chain.proofs.Chains.{Real, link-real, run, chain-run, chainFrom-end, chainFrom-break, chainFrom-passed, chainFrom-on, chainFrom-full}
+use Rattle.chain.proofs.Links.{Real, link-real}
+use Rattle.chain.proofs.Rows.{chainOf-empty, chainOf-used}
+use Rattle.chain.proofs.Chains.{run, chain-run, chainFrom-end, chainFrom-break, chainFrom-passed, chainFrom-on, chainFrom-full}
 use Rattle.chain.proofs.Bodies.{length-slot-body, length-copy-body}
-
--- ---- the chain of a row
-
-abbrev pub slotVersion : List ℕ → ℕ → Version
-slotVersion d r = record { place = Data r; slot = slotAt r d }
-
-module _ (d u : List ℕ) (r : ℕ) where
-  -- "an empty slot has no chain"
-  pub chain-empty : slotAt r d .create ≡ 0 → chainOf d u r ≡ ended true
-  unfolding chainOf
-  chain-empty h = rw (eq-eqb (slotAt r d .create) 0 h)
-
-  -- the slot's own version stands in front
-  pub chain-occupied : (slotAt r d .create ≡ 0 → ⊥) → chainOf d u r ≡ onto (slotVersion d r) (chainFrom u r (entries u) [] (slotAt r d .«undo_ptr»))
-  unfolding chainOf
-  chain-occupied h = rw (ne-eqb (slotAt r d .create) 0 h)
 
 -- ---- where the versions lie
 
@@ -78,17 +64,17 @@ module _ (d u : List ℕ) (r : ℕ) where
           by : (t : Bool) → among e ps ≡ t → HeldIn (chainFrom u r (suc fuel) ps ptr)
           by true p = subst HeldIn (sym (chainFrom-passed u r ps ptr e m h (suc fuel) p)) tt
           by false p =
-              let real : Real u e m = link-real u r ptr e m h in
+              let real : Real u r ptr e m = link-real u r ptr e m h in
               subst HeldIn (sym (chainFrom-on u r ps ptr e m h fuel p)) ((real .inside, ap (λ (x : Entry). x .copy) (real .stands)), ih e m)
 
   pub chain-held : AllHeld d u r (chainOf d u r .versions)
   chain-held = by (eqb (slotAt r d .create) 0) refl
     where
       by : (t : Bool) → eqb (slotAt r d .create) 0 ≡ t → HeldIn (chainOf d u r)
-      by true h = subst HeldIn (sym (chain-empty d u r (eqb-true (slotAt r d .create) 0 h))) tt
+      by true h = subst HeldIn (sym (chainOf-empty d u r (eqb-true (slotAt r d .create) 0 h))) tt
       by false h =
           subst HeldIn
-          (sym (chain-occupied d u r (eqb-false (slotAt r d .create) 0 h)))
+          (sym (chainOf-used d u r (eqb-false (slotAt r d .create) 0 h)))
           ((refl, refl), chainFrom-held (entries u) [] (slotAt r d .«undo_ptr»))
 
   held-in : (newer : List Version) (it : Version) (older : List Version) → AllHeld d u r (newer ++ (it ∷ older)) → Held d u r (it .place) (it .slot)
@@ -211,16 +197,16 @@ there-found v s m saw is h = ap (there v s) (sym is) ∙ sym saw ∙ h
 module _ (d u s : List ℕ) (v : View) (r : ℕ) where
   pub walk-empty : slotAt r d .create ≡ 0 → walkRule d u s v r ≡ Absent
   unfolding walkRule firstIn
-  walk-empty h = rw (chain-empty d u r h)
+  walk-empty h = rw (chainOf-empty d u r h)
 
   module _ (some : slotAt r d .create ≡ 0 → ⊥) where
     pub walk-slot : thereIn v s (slotAt r d) ≡ true → walkRule d u s v r ≡ Found (Data r) 1
     unfolding walkRule firstIn
-    walk-slot h = rw (chain-occupied d u r some, h)
+    walk-slot h = rw (chainOf-used d u r some, h)
 
     pub walk-behind : thereIn v s (slotAt r d) ≡ false → walkRule d u s v r ≡ followRule u s v r (slotAt r d .«undo_ptr»)
     unfolding walkRule followRule firstIn
-    walk-behind h = rw (chain-occupied d u r some, h)
+    walk-behind h = rw (chainOf-used d u r some, h)
 
     -- where the slot was read as m
     pub walk-on : {m : Slot} {w : Walk} → m ≡ slotAt r d → thereIn v s (slotAt r d) ≡ false → w ≡ followRule u s v r (m .«undo_ptr»)

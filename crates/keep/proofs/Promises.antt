@@ -2,7 +2,7 @@
 -- up what format wrote and what seal sealed. Assumes nothing.
 use mathlib.Core.Path.{_≡_, refl, sym, ap, ap₂, _∙_}
 use mathlib.Core.Logic.{⊎-elim}
-use mathlib.Core.Bool.{Bool, true, false, not}
+use mathlib.Core.Bool.{true, false, not}
 use mathlib.Core.List.{List, [], _∷_, _++_}
 use Prim.Native.Nat.{ℕ, zero, suc, _+_, _*_, _^_, _≤_, _<_}
 use native.Mathlib.Nat.{eq-or-lt-of-le, le-of-suc-le-suc}
@@ -12,10 +12,11 @@ use lib.ListN.{length, length-append}
 use lib.Seq.{sets}
 use lib.Dec.{leb, ltb}
 use borrow.Author.Tests.{not-false}
-use Rattle.ground.specs.Refuse.{firstOf, settle}
+use Rattle.ground.specs.Refuse.{firstOf}
 use Rattle.ground.specs.Range.{allBelow}
 use Rattle.ground.specs.Does.{Does}
 use Rattle.ground.proofs.Ranges.{all-intro, all-agree}
+use Rattle.ground.proofs.Refusals.{firstOf-none, settled}
 use Rattle.ground.proofs.Once.{once}
 use Rattle.answer.specs.declared.Answer.{Answer}
 use Rattle.answer.specs.Code.{codeOf}
@@ -57,47 +58,42 @@ open-once a r r′ p q = said-injective r r′ (p ∙ sym q)
 
 -- ---- a refused call changes nothing, and what an accepted one leaves
 
-module _ {A : Type 0} (codeIn : A → ℕ) (done : A × Areas) (answer : ℕ → A) (a : Areas) where
-  settle-refused : (n : ℕ)
-      → codeIn (done .0) ≡ 0
-      → (codeIn (settle {A = A × Areas} n done (λ (m : ℕ). (answer m, a)) .0) ≡ 0 → ⊥)
-      → settle {A = A × Areas} n done (λ (m : ℕ). (answer m, a)) .1 ≡ a
-  settle-refused zero z ne = absurd (ne z)
-  settle-refused (suc n) z ne = refl
-
-  settle-accepted : (n : ℕ)
-      → ((m : ℕ) → codeIn (answer m) ≡ m)
-      → codeIn (settle {A = A × Areas} n done (λ (m : ℕ). (answer m, a)) .0) ≡ 0
-      → n ≡ 0
-  settle-accepted zero h e = refl
-  settle-accepted (suc n) h e = sym (h (suc n)) ∙ e
-
--- the first condition of a list that refuses nothing
-first-false : (t : Bool) (n : ℕ) (ls : List (Bool × ℕ)) → firstOf ((t, suc n) ∷ ls) ≡ 0 → t ≡ false
-first-false true n ls e = absurd (omega arith)
-first-false false n ls e = refl
-
 module _ (a : Areas) where
   pub format-refused : (formatRule a .0 .0 ≡ 0 → ⊥) → formatRule a .1 ≡ a
   unfolding formatRule
-  format-refused ne =
-      settle-refused (λ (r : ℕ × Desk). r .0) ((0, freshDesk 1), formatted a) (λ (n : ℕ). (n, noDesk)) a (formatRefusal a) refl ne
+  format-refused =
+      settled ((0, freshDesk 1), formatted a) (λ (n : ℕ). ((n, noDesk), a)) (formatRefusal a)
+      (λ (y : (ℕ × Desk) × Areas). (y .0 .0 ≡ 0 → ⊥) → y .1 ≡ a)
+      (λ e h. absurd (h refl))
+      (λ m h. refl)
 
   pub format-accepted : formatRule a .0 .0 ≡ 0 → (badLength a ≡ false) × (formatRule a ≡ ((0, freshDesk 1), formatted a))
   unfolding formatRule formatRefusal
-  format-accepted e =
-      let z : formatRefusal a ≡ 0 = settle-accepted (λ (r : ℕ × Desk). r .0) ((0, freshDesk 1), formatted a) (λ (n : ℕ). (n, noDesk)) a (formatRefusal a) (λ m. refl) e in
-      (first-false (badLength a) 0 [] z, rw z)
+  format-accepted =
+      settled ((0, freshDesk 1), formatted a) (λ (n : ℕ). ((n, noDesk), a)) (formatRefusal a)
+      (λ (y : (ℕ × Desk) × Areas). y .0 .0 ≡ 0 → (badLength a ≡ false) × (y ≡ ((0, freshDesk 1), formatted a)))
+      (λ e h. (firstOf-none (badLength a) 1 0 (λ z. omega arith) e .0, refl))
+      (λ m h. absurd (omega arith))
 
-  pub seal-refused : (d : Desk) → (sealRule a d .0 ≡ 0 → ⊥) → sealRule a d .1 ≡ a
-  unfolding sealRule
-  seal-refused d ne = settle-refused (λ (n : ℕ). n) (0, sealed a) (λ (n : ℕ). n) a (sealRefusal a d) refl ne
+  module _ (d : Desk) where
+    pub seal-refused : (sealRule a d .0 ≡ 0 → ⊥) → sealRule a d .1 ≡ a
+    unfolding sealRule
+    seal-refused =
+        settled (0, sealed a) (λ (n : ℕ). (n, a)) (sealRefusal a d)
+        (λ (y : ℕ × Areas). (y .0 ≡ 0 → ⊥) → y .1 ≡ a)
+        (λ e h. absurd (h refl))
+        (λ m h. refl)
 
-  pub seal-accepted : (d : Desk) → sealRule a d .0 ≡ 0 → (badLength a ≡ false) × (sealRule a d ≡ (0, sealed a))
-  unfolding sealRule sealRefusal
-  seal-accepted d e =
-      let z : sealRefusal a d ≡ 0 = settle-accepted (λ (n : ℕ). n) (0, sealed a) (λ (n : ℕ). n) a (sealRefusal a d) (λ m. refl) e in
-      (first-false (badLength a) 0 ((not (sound d), 2) ∷ (ltb 0 (openCount (d .numbers)), 15) ∷ []) z, rw z)
+    pub seal-accepted : sealRule a d .0 ≡ 0 → (badLength a ≡ false) × (sealRule a d ≡ (0, sealed a))
+    unfolding sealRule sealRefusal
+    seal-accepted =
+        settled (0, sealed a) (λ (n : ℕ). (n, a)) (sealRefusal a d)
+        (λ (y : ℕ × Areas). y .0 ≡ 0 → (badLength a ≡ false) × (y ≡ (0, sealed a)))
+        (λ e h. (
+          firstOf-none (badLength a) 1 (firstOf ((not (sound d), 2) ∷ (ltb 0 (openCount (d .numbers)), 15) ∷ [])) (λ z. omega arith) e .0,
+          refl,
+        ))
+        (λ m h. absurd (omega arith))
 
 -- ---- fresh areas
 

@@ -1,7 +1,7 @@
 -- What withdrawing from one row does to chains ("01, Writes, withdrawal, sweep"): the versions that S made go from the front, the next
 -- one stands in the slot and is ended by nobody, and what is older is as it was; every other chain is as it was. Assumes nothing.
 use mathlib.Core.Path.{_≡_, refl, sym, ap, subst, _∙_}
-use mathlib.Core.Bool.{Bool, true, false, not, _||_, _&&_, cond}
+use mathlib.Core.Bool.{Bool, true, false, not, _||_, _&&_, cond, true≢false, false≢true}
 use mathlib.Core.List.{List, [], _∷_}
 use Prim.Native.Nat.{ℕ, zero, suc, _<_}
 use native.Mathlib.Omega.{arith}
@@ -20,7 +20,9 @@ use Rattle.chain.specs.declared.Place.the-variants.{Nowhere, Data, Undo}
 use Rattle.chain.specs.declared.Link.{Link}
 use Rattle.chain.specs.declared.Link.the-variants.{End, Break, To}
 use Rattle.chain.specs.Chain.{Version, Chain, ended, onto, among, chainFrom, chainOf, linkOf}
+use Rattle.chain.proofs.Links.{link-real}
 use Rattle.chain.proofs.Chains.{chainFrom-end, chainFrom-break, chainFrom-full}
+use Rattle.chain.proofs.Rows.{chainOf-empty, chainOf-used}
 use Rattle.touching.specs.Touching.{withSlot, withMeta}
 use Rattle.touching.proofs.Touchings.{WrittenSlot, slotAt-written-other, bodyAt-written-other, withSlot-written, slotAt-withSlot, bodyAt-withSlot, withMeta-written, slotAt-withMeta, bodyAt-withMeta}
 use Rattle.freeing.specs.Freeing.{withoutSlot, withoutEntry, Both, both}
@@ -33,11 +35,8 @@ use Rattle.records.proofs.Fits.{fit-slot, slotAt-fit, copy-fit}
 use Rattle.strands.proofs.Gone.{Gone, gone-none, gone-freed, gone-enough}
 use Rattle.strands.proofs.Rows.{treated-refl}
 use Rattle.strands.proofs.Shapes.{shaped-refl, shaped-trans, shaped-withoutSlot, shaped-withMeta, shaped-withSlot, shaped-withoutEntry}
-use Rattle.strands.proofs.Runs.{link-some, step-place, step-inside, strand-freed, keeps-refl, keeps-freed, chain-strand, chainOf-empty, chainOf-used}
+use Rattle.strands.proofs.Runs.{step-place, step-inside, strand-freed, keeps-refl, keeps-freed, chain-strand}
 use Rattle.putback.specs.PutBack.{own, ownMade, unexpired, freedAt, copyBody, takenBack, undoneRow}
-
-true-false : true ≡ false → ⊥
-true-false e = let z : _≡_ {A = ℕ} 0 1 = cc in omega arith
 
 unexpired-fit : (x : Slot) → SlotFit x → SlotFit (unexpired x)
 unexpired-fit x f = fit-slot (unexpired x) (f .0) (omega arith) (f .1 .1 .0) (f .1 .1 .1 .0) (omega arith)
@@ -191,7 +190,7 @@ module _ (n k r : ℕ) (d : List ℕ) where
                 }
             by true done unbroken = done unbroken
             by false done unbroken =
-                chainOf-used new (withoutEntry n e u) r (λ z. link-some u r ptr e m h (sym (ap (λ (x : Slot). x .create) is) ∙ z))
+                chainOf-used new (withoutEntry n e u) r (λ z. link-real u r ptr e m h .carries .some (sym (ap (λ (x : Slot). x .create) is) ∙ z))
                 ∙ ap (λ (x : Slot). onto (record { place = Data r; slot = x }) (chainFrom (withoutEntry n e u) r (entries (withoutEntry n e u)) [] (x .«undo_ptr»))) is
                 ∙ ap (onto (record { place = Data r; slot = unexpired (m .copy) })) (gone-enough r v (withoutEntry n e u) (e ∷ ps) fuel gone (m .copy .«undo_ptr»))
 
@@ -219,7 +218,7 @@ module _ (n k r : ℕ) (d : List ℕ) where
         f = withoutEntry-frees n (entryIn x) u (step-inside (s .0))
 
         further : (t : ℕ) (b : Bool) → eqb t (entryIn x) ≡ b → (b || among t ps) ≡ false → copyBodyAt t (withoutEntry n (entryIn x) u) ≡ copyBodyAt t v
-        further t true k out = absurd (true-false out)
+        further t true k out = absurd (true≢false out)
         further t false k out = f .bodies t (eqb-false t (entryIn x) k) ∙ same t out
 
         by : (t : Bool) → cond t (rest (ownMade n k) xs) (x ∷ xs) ≡ z ∷ zs
@@ -253,7 +252,7 @@ module _ (n k r : ℕ) (d u : List ℕ) (h : RowIn r d u) where
       used true z =
           subst (λ (c : Chain). Kept n k r d [] u (takenBack n k r (drop 1 (c .versions)) (both d u)))
           (sym (chainOf-empty d u r (eqb-true (slotAt r d .create) 0 z)))
-          (taken-kept n k r d false [] u [] 0 (λ w. absurd (true-false (sym w))))
+          (taken-kept n k r d false [] u [] 0 (λ w. absurd (false≢true w)))
       used false z =
           subst (λ (c : Chain). Kept n k r d [] u (takenBack n k r (drop 1 (c .versions)) (both d u)))
           (sym (chainOf-used d u r (eqb-false (slotAt r d .create) 0 z)))
@@ -329,7 +328,7 @@ module _ (n k r : ℕ) (d u : List ℕ) (h : RowIn r d u) where
       occupied : (b : Bool) → eqb (slotAt r d .create) 0 ≡ b
           → (not b && own n k (slotAt r d .expire) (slotAt r d .«expire_cmd»)) ≡ true
           → slotAt r d .create ≡ 0 → ⊥
-      occupied true z e = absurd (true-false (sym e))
+      occupied true z e = absurd (false≢true e)
       occupied false z e = eqb-false (slotAt r d .create) 0 z
 
   -- "If the slot's creator is S, put back the copy from its chain, with expire and expire_cmd cleared, and free the entry; repeat until
@@ -342,7 +341,7 @@ module _ (n k r : ℕ) (d u : List ℕ) (h : RowIn r d u) where
       where
         by : (b : Bool) → eqb (slotAt r d .create) n ≡ b → (b && leb k (slotAt r d .cmd)) ≡ true → ⊥
         by true q e = let same : slotAt r d .create ≡ n = eqb-true (slotAt r d .create) n q in omega arith
-        by false q e = true-false (sym e)
+        by false q e = false≢true e
 
     undoneRow-made : undoneRow n k r (both d u) ≡ takenBack n k r (behind .versions) (both d u)
     unfolding undoneRow

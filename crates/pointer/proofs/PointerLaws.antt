@@ -174,6 +174,23 @@ pub leadOf-zero : (n : ℕ) → leadOf n 0 ≡ Nowhere
 unfolding leadOf leads
 leadOf-zero n = refl
 
+-- and nothing else does
+pub leadOf-nowhere : (n v : ℕ) → leadOf n v ≡ Nowhere → v ≡ 0
+unfolding leadOf leads
+leadOf-nowhere n v h =
+    by (eqb v 0) refl
+    (((wellFormed v && leb 1 (pageIn v)) && leb (pageIn v) n) && atEntry 80 101 (offsetIn v))
+    (entryNamed 80 101 (pageIn v) (offsetIn v))
+    h
+  where
+    never : (c : Bool) (e : ℕ) → cond c (Entry e) Astray ≡ Nowhere → ⊥
+    never true e k = let z : _≡_ {A = ℕ} 0 1 = cc in omega arith
+    never false e k = let z : _≡_ {A = ℕ} 0 1 = cc in omega arith
+
+    by : (b : Bool) → eqb v 0 ≡ b → (c : Bool) (e : ℕ) → cond b Nowhere (cond c (Entry e) Astray) ≡ Nowhere → v ≡ 0
+    by true k c e g = eqb-true v 0 k
+    by false k c e g = absurd (never c e g)
+
 pub leadOf-inside : (n v e : ℕ) → leadOf n v ≡ Entry e → e < n * 101
 unfolding leadOf
 leadOf-inside = leads-inside 80 101 (omega arith) (omega arith) (omega arith)

@@ -20,7 +20,7 @@ use Rattle.chain.specs.declared.Link.{Link}
 use Rattle.chain.specs.declared.Link.the-variants.{End, Break, To}
 use Rattle.chain.specs.Chain.{Chain, onto, chainFrom, chainOf, linkOf}
 use Rattle.chain.proofs.Chains.{copyOf}
-use Rattle.chain.proofs.Walks.{slotVersion, chain-occupied}
+use Rattle.chain.proofs.Rows.{slotVersion, chainOf-used}
 use Rattle.touching.specs.Touching.{withSlot, withMeta}
 use Rattle.freeing.specs.Freeing.{withoutSlot, withoutEntry, both}
 use Rattle.strands.proofs.Strands.{withoutEntry-frees, link-inside, freed-step, versions-end, versions-break, versions-out}
@@ -41,7 +41,7 @@ module _ {m : Slot} {b : Bool} (n k r : ℕ) (d : List ℕ) (read : m ≡ slotAt
       → chainOf d u r ≡ onto (slotVersion d r) (chainFrom u r (entries u) [] (slotAt r d .«undo_ptr»))
   own-chain u h some =
       let is : slotAt r d .create ≡ n = own-number n k (slotAt r d .create) (slotAt r d .cmd) (own-slot h) in
-      chain-occupied d u r (λ z. omega arith)
+      chainOf-used d u r (λ z. omega arith)
 
 -- ---- a copy is put back
 

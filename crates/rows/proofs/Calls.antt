@@ -1,6 +1,6 @@
 -- The rules of insert, update, delete and read, case by case. Assumes nothing.
 use mathlib.Core.Path.{_≡_, refl, sym, ap, _∙_}
-use mathlib.Core.Bool.{Bool, true, false, _||_}
+use mathlib.Core.Bool.{Bool, _||_, or-true, or-false}
 use mathlib.Core.List.{List, [], _∷_}
 use Prim.Native.Nat.{ℕ, zero, suc, _*_, _<_, _≤_, _^_}
 use native.Mathlib.Nat.{mul-le-mul}
@@ -130,14 +130,6 @@ module _ (d u s : List ℕ) (desk : Desk) (x r : ℕ) where
           ∙ ap deleteDone (sym (seen-in d u s desk x k a r seen asked))
 
 -- ---- update
-
-or-false : (b : Bool) → b || false ≡ b
-or-false true = refl
-or-false false = refl
-
-or-true : (b : Bool) → b || true ≡ true
-or-true true = refl
-or-true false = refl
 
 -- the number of a record of the pages that may be lent is small
 pub small-number : {r n count : ℕ} → n ≤ 64 → count ≤ 127 → r < n * count → r < 2 ^ 32

@@ -2,11 +2,11 @@
 -- both cite it ("01, Writes, withdrawal, sweep"). Assumes nothing.
 use mathlib.Core.Path.{_≡_, refl, sym, ap, subst, _∙_}
 use mathlib.Core.Logic.{_⊎_, inl, inr}
-use mathlib.Core.Bool.{Bool, true, false, _||_, cond}
-use mathlib.Core.List.{List, []}
+use mathlib.Core.Bool.{Bool, true, false, cond}
+use mathlib.Core.List.{List}
 use Prim.Native.Nat.{ℕ, _*_, _/_, _<_}
 use lib.Dec.{eqb}
-use borrow.Author.Tests.{eqb-true, eqb-false, ne-eqb}
+use borrow.Author.Tests.{eqb-true, eqb-false}
 use Rattle.kind.specs.Kind.{pages, entries}
 use Rattle.pointer.specs.declared.Lead.{Lead}
 use Rattle.pointer.specs.declared.Lead.the-variants.{Nowhere as None, Entry as ToEntry, Astray}
@@ -17,14 +17,13 @@ use Rattle.records.specs.Slot.{slotAt}
 use Rattle.records.specs.Entry.{entryAt, copyBodyAt}
 use Rattle.records.proofs.Slots.{SlotFit}
 use Rattle.records.proofs.Entries.{entries-lie}
-use Rattle.chain.specs.declared.Place.the-variants.{Data}
-use Rattle.chain.specs.declared.Link.{Link}
-use Rattle.chain.specs.declared.Link.the-variants.{End, Break, To}
-use Rattle.chain.specs.Chain.{Chain, ended, onto, among, unfit, chainFrom, chainOf, linkAt, linkOf}
+use Rattle.chain.specs.declared.Link.the-variants.{Break, To}
+use Rattle.chain.specs.Chain.{unfit, chainOf, linkAt, linkOf}
+use Rattle.chain.proofs.Links.{unfit-free, unfit-other}
+use Rattle.chain.proofs.Rows.{chainOf-agree}
 use Rattle.freeing.specs.Freeing.{cutCopy}
 use Rattle.freeing.proofs.Freeings.{length-stored, entryAt-stored-other, copyBodyAt-stored-other, cutCopy-is, entryAt-cutCopy, copyBodyAt-cutCopy}
 use Rattle.strands.specs.Strands.{Frees, OfRow, Copies, Treated, RowIn}
-use Rattle.strands.proofs.Strands.{less, unfit-free, chainFrom-less}
 
 -- an entry as it was, or row r's and now free or still row r's
 abbrev Alike : ℕ → Entry → Entry → Type 0
@@ -111,14 +110,6 @@ cutCopy-copies e m u here fit = record { free = λ q h. free q (eqb q e) refl �
 
 -- ---- a link of another row leads nowhere different: an entry of row r breaks its chain, and so does a free one
 
-unfit-other : (t : ℕ) (m : Entry) → (m .row ≡ t → ⊥) → unfit t m ≡ true
-unfolding unfit
-unfit-other t m ne = rw (ne-eqb (m .row) t ne) (by (eqb (m .writer) 0))
-  where
-    by : (b : Bool) → ((b || true) || eqb (m .copy .create) 0) ≡ true
-    by true = refl
-    by false = refl
-
 module _ {r : ℕ} {u u′ : List ℕ} (f : OfRow r u u′) (t : ℕ) (ne : t ≡ r → ⊥) where
   others : (m : Entry) → (m .writer ≡ 0) ⊎ (m .row ≡ r) → unfit t m ≡ true
   others m (inl free) = unfit-free t m free
@@ -139,24 +130,8 @@ module _ {r : ℕ} {u u′ : List ℕ} (f : OfRow r u u′) (t : ℕ) (ne : t �
       by Astray = refl
       by (ToEntry q) = at q (f .entries q)
 
-  -- no entry is gone from a chain of row t
-  link-none : (l : Link) → l ≡ less (λ (q : ℕ). false) l
-  link-none End = refl
-  link-none Break = refl
-  link-none (To q m) = refl
-
-  chainFrom-ofRow : (fuel ptr : ℕ) → chainFrom u′ t fuel [] ptr ≡ chainFrom u t fuel [] ptr
-  unfolding among
-  chainFrom-ofRow fuel ptr =
-      chainFrom-less (λ (q : ℕ). false) u u′ t (λ p. link-ofRow p ∙ link-none (linkOf u t p)) fuel [] [] ptr (λ q. refl)
-
   pub chainOf-ofRow : (d d′ : List ℕ) → slotAt t d′ ≡ slotAt t d → chainOf d′ u′ t ≡ chainOf d u t
-  unfolding chainOf
-  chainOf-ofRow d d′ slot =
-      let size : entries u′ ≡ entries u = ap (λ (n : ℕ). n * 101) (f .size) in
-      ap (λ (m : Slot). cond (eqb (m .create) 0) (ended true) (onto (record { place = Data t; slot = m }) (chainFrom u′ t (entries u′) [] (m .«undo_ptr»)))) slot
-      ∙ ap (λ (c : Chain). cond (eqb (slotAt t d .create) 0) (ended true) (onto (record { place = Data t; slot = slotAt t d }) c))
-      (ap (λ (n : ℕ). chainFrom u′ t n [] (slotAt t d .«undo_ptr»)) size ∙ chainFrom-ofRow (entries u) (slotAt t d .«undo_ptr»))
+  chainOf-ofRow d d′ slot = chainOf-agree u u′ t link-ofRow d d′ (ap (λ (n : ℕ). n * 101) (f .size)) slot
 
 module _ {r : ℕ} {d u d′ u′ : List ℕ} (f : Treated r d u d′ u′) where
   -- "the order of rows is of no account": a row that is not treated has the chain that it had

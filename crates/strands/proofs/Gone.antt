@@ -1,7 +1,7 @@
 -- A walk that frees entries as it goes has fuel enough: behind the entries ps, all freed, the chain is the same with the fuel that is
 -- left and with as much as there are entries. Whole or broken, as it was. Assumes nothing.
 use mathlib.Core.Path.{_≡_, refl, sym, ap, _∙_}
-use mathlib.Core.Bool.{Bool, true, false, _||_, cond}
+use mathlib.Core.Bool.{Bool, true, false, _||_, cond, or-true, or-false}
 use mathlib.Core.List.{List, [], _∷_}
 use Prim.Native.Nat.{ℕ, suc, _+_, _<_}
 use native.Mathlib.Omega.{arith}
@@ -12,17 +12,9 @@ use Rattle.records.specs.declared.entry.Entry.{Entry}
 use Rattle.chain.specs.declared.Link.{Link}
 use Rattle.chain.specs.declared.Link.the-variants.{End, Break, To}
 use Rattle.chain.specs.Chain.{among, chainFrom, linkOf}
-use Rattle.chain.proofs.Enough.{more}
+use Rattle.chain.proofs.Enough.{Distinct, Below, more}
 use Rattle.strands.specs.Strands.{Frees}
 use Rattle.strands.proofs.Strands.{less, link-freed, link-inside, chainFrom-less}
-
-abbrev Distinct : List ℕ → Type 0
-Distinct [] = Unit
-Distinct (p ∷ ps) = (among p ps ≡ false) × Distinct ps
-
-abbrev Below : ℕ → List ℕ → Type 0
-Below n [] = Unit
-Below n (p ∷ ps) = (p < n) × Below n ps
 
 -- u is v with the entries ps freed, as row r sees it; there are fuel more
 pub record Gone (r : ℕ) (v u ps : List ℕ) (fuel : ℕ) : Type 0 where
@@ -62,16 +54,8 @@ gone-freed r v u u₁ ps fuel ptr e m g to f =
     also (To q k) = by (among q ps)
       where
         by : (b : Bool) → less (λ (q : ℕ). eqb q e) (cond b Break (To q k)) ≡ cond (eqb q e || b) Break (To q k)
-        by true = sym (or-true (eqb q e))
-          where
-            or-true : (a : Bool) → cond (a || true) Break (To q k) ≡ Break
-            or-true true = refl
-            or-true false = refl
-        by false = or-false (eqb q e)
-          where
-            or-false : (a : Bool) → cond a Break (To q k) ≡ cond (a || false) Break (To q k)
-            or-false true = refl
-            or-false false = refl
+        by true = sym (ap (λ (a : Bool). cond a Break (To q k)) (or-true (eqb q e)))
+        by false = sym (ap (λ (a : Bool). cond a Break (To q k)) (or-false (eqb q e)))
 
     fresh : (l : Link) → less (λ (q : ℕ). among q ps) l ≡ To e m → among e ps ≡ false
     fresh End k = let z : _≡_ {A = ℕ} 0 1 = cc in absurd (omega arith)
@@ -92,9 +76,5 @@ gone-enough r v u ps fuel g ptr =
     ∙ more v r (length ps) fuel ps ptr (g .distinct) (g .below) (g .left)
     ∙ sym (seen fuel)
   where
-    or-false : (b : Bool) → b ≡ b || false
-    or-false true = refl
-    or-false false = refl
-
     seen : (n : ℕ) → chainFrom u r n [] ptr ≡ chainFrom v r n ps ptr
-    seen n = chainFrom-less (λ (q : ℕ). among q ps) v u r (g .links) n [] ps ptr (λ q. or-false (among q ps))
+    seen n = chainFrom-less (λ (q : ℕ). among q ps) v u r (g .links) n [] ps ptr (λ q. sym (or-false (among q ps)))

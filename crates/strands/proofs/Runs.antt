@@ -1,18 +1,14 @@
 -- Where the versions of a chain lie ("01, Sessions and sight"): each in an entry of its row, no two in the same; and a whole chain is
 -- again one where those entries are as they were. Assumes nothing.
 use mathlib.Core.Path.{_≡_, refl, sym, ap, subst, _∙_}
-use mathlib.Core.Bool.{Bool, true, false, not, _||_, _&&_, cond}
+use mathlib.Core.Bool.{Bool, true, false, _||_, true≢false, false≢true}
 use mathlib.Core.List.{List, [], _∷_}
 use Prim.Native.Nat.{ℕ, zero, suc, _*_, _≤_, _<_}
 use native.Mathlib.Omega.{arith}
 use lib.ListN.{length}
-use lib.Dec.{eqb, leb}
-use borrow.Author.Tests.{eqb-true, eqb-false, eq-eqb, ne-eqb}
+use lib.Dec.{eqb}
 use Rattle.kind.specs.Kind.{pages, entries}
-use Rattle.pointer.specs.declared.Lead.{Lead}
-use Rattle.pointer.specs.declared.Lead.the-variants.{Nowhere as None, Entry as ToEntry, Astray}
-use Rattle.pointer.specs.Pointer.{pageIn, offsetIn, wellFormed, atEntry, entryNamed, leads, leadOf}
-use Rattle.pointer.proofs.PointerLaws.{leadOf-zero}
+use Rattle.pointer.specs.Pointer.{leads, leadOf}
 use Rattle.records.specs.declared.slot.Slot.{Slot}
 use Rattle.records.specs.declared.entry.Entry.{Entry}
 use Rattle.records.specs.Slot.{slotAt}
@@ -24,124 +20,25 @@ use Rattle.chain.specs.declared.Place.{Place}
 use Rattle.chain.specs.declared.Place.the-variants.{Data, Undo}
 use Rattle.chain.specs.declared.Link.{Link}
 use Rattle.chain.specs.declared.Link.the-variants.{End, Break, To}
-use Rattle.chain.specs.Chain.{Version, Chain, ended, onto, among, unfit, chainFrom, chainOf, linkAt, linkOf}
-use Rattle.chain.proofs.Chains.{chainFrom-end, chainFrom-break, chainFrom-passed, chainFrom-on, chainFrom-full, link-to}
+use Rattle.chain.specs.Chain.{Version, Chain, onto, among, chainFrom, chainOf, linkOf}
+use Rattle.chain.proofs.Links.{Carries, carries-unfit, among-first, among-later, among-apart, link-to, link-real, link-zero, link-none}
+use Rattle.chain.proofs.Chains.{chainFrom-end, chainFrom-break, chainFrom-passed, chainFrom-on, chainFrom-full}
+use Rattle.chain.proofs.Rows.{chainOf-slot}
 use Rattle.strands.specs.Strands.{Frees, Keeps, entryIn, Step, Strand}
 use Rattle.strands.proofs.Apart.{frees-ofRow, cutCopy-ofRow, ofRow-refl, ofRow-trans, copies-refl, copies-trans, frees-copies, cutCopy-copies}
 use Rattle.strands.proofs.Strands.{link-inside, link-stands}
 
-true-false : true ≡ false → ⊥
-true-false e = let z : _≡_ {A = ℕ} 0 1 = cc in omega arith
-
--- ---- entries passed
-
-among-first : (e : ℕ) (ps : List ℕ) → among e (e ∷ ps) ≡ true
-unfolding among
-among-first e ps = rw (eq-eqb e e refl)
-
-among-later : (q e : ℕ) (ps : List ℕ) → among q ps ≡ true → among q (e ∷ ps) ≡ true
-unfolding among
-among-later q e ps h = by (eqb q e)
-  where
-    by : (t : Bool) → t || among q ps ≡ true
-    by true = refl
-    by false = h
-
--- what is none of those passed is another than each of them
-pub among-apart : (q e : ℕ) (ps : List ℕ) → among q ps ≡ false → among e ps ≡ true → q ≡ e → ⊥
-among-apart q e ps out passed same = true-false (sym passed ∙ ap (λ (x : ℕ). among x ps) (sym same) ∙ out)
-
--- ---- what a link says of its entry
-
--- it "carries a version of row r"
-record Carries (r : ℕ) (m : Entry) : Type 0 where
-  pub used : m .writer ≡ 0 → ⊥
-  pub row : m .row ≡ r
-  pub some : m .copy .create ≡ 0 → ⊥
-
-unfit-carries : (r : ℕ) (m : Entry) → unfit r m ≡ false → Carries r m
-unfolding unfit
-unfit-carries r m = by (eqb (m .writer) 0) (eqb (m .row) r) (eqb (m .copy .create) 0) refl refl refl
-  where
-    by : (a b c : Bool) → eqb (m .writer) 0 ≡ a → eqb (m .row) r ≡ b → eqb (m .copy .create) 0 ≡ c → (a || not b || c) ≡ false → Carries r m
-    by true b c x y z h = absurd (true-false h)
-    by false false c x y z h = absurd (true-false h)
-    by false true true x y z h = absurd (true-false h)
-    by false true false x y z h =
-        record { used = eqb-false (m .writer) 0 x; row = eqb-true (m .row) r y; some = eqb-false (m .copy .create) 0 z }
-
-carries-unfit : (r : ℕ) (m : Entry) → Carries r m → unfit r m ≡ false
-unfolding unfit
-carries-unfit r m c = rw (ne-eqb (m .writer) 0 (c .used), eq-eqb (m .row) r (c .row), ne-eqb (m .copy .create) 0 (c .some))
-
--- the pointer leads there, and the entry carries a version
-record Link-To (u : List ℕ) (r ptr e : ℕ) (m : Entry) : Type 0 where
-  pub leads : leadOf (pages u) ptr ≡ ToEntry e
-  pub carries : Carries r m
-
-link-parts : (u : List ℕ) (r ptr e : ℕ) (m : Entry) → linkOf u r ptr ≡ To e m → Link-To u r ptr e m
-unfolding linkOf
-link-parts u r ptr e m h = by (leadOf (pages u) ptr) refl h
-  where
-    fit : (q : ℕ) (b : Bool) → leadOf (pages u) ptr ≡ ToEntry q → unfit r (entryAt q u) ≡ b → cond b Break (To q (entryAt q u)) ≡ To e m → Link-To u r ptr e m
-    fit q true l g k = let z : _≡_ {A = ℕ} 0 1 = cc in absurd (omega arith)
-    fit q false l g k =
-        let same : q ≡ e = cc in
-        let copied : entryAt q u ≡ m = cc in
-        record { leads = l ∙ ap ToEntry same; carries = subst (Carries r) copied (unfit-carries r (entryAt q u) g) }
-
-    by : (l : Lead) → leadOf (pages u) ptr ≡ l → linkAt u r l ≡ To e m → Link-To u r ptr e m
-    by None l k = let z : _≡_ {A = ℕ} 0 1 = cc in absurd (omega arith)
-    by Astray l k = let z : _≡_ {A = ℕ} 0 1 = cc in absurd (omega arith)
-    by (ToEntry q) l k = fit q (unfit r (entryAt q u)) l refl k
-
--- "or one whose copy has create 0" would break the chain
-pub link-some : (u : List ℕ) (r ptr e : ℕ) (m : Entry) → linkOf u r ptr ≡ To e m → m .copy .create ≡ 0 → ⊥
-link-some u r ptr e m h = link-parts u r ptr e m h .carries .some
-
--- "0 means none", and nothing else does
-pub link-zero : (u : List ℕ) (r : ℕ) → linkOf u r 0 ≡ End
-unfolding linkOf
-link-zero u r = ap (linkAt u r) (leadOf-zero (pages u))
-
-leadOf-none : (n v : ℕ) → leadOf n v ≡ None → v ≡ 0
-unfolding leadOf leads
-leadOf-none n v h =
-    by (eqb v 0) refl
-    (((wellFormed v && leb 1 (pageIn v)) && leb (pageIn v) n) && atEntry 80 101 (offsetIn v))
-    (entryNamed 80 101 (pageIn v) (offsetIn v))
-    h
-  where
-    never : (c : Bool) (e : ℕ) → cond c (ToEntry e) Astray ≡ None → ⊥
-    never true e k = let z : _≡_ {A = ℕ} 0 1 = cc in omega arith
-    never false e k = let z : _≡_ {A = ℕ} 0 1 = cc in omega arith
-
-    by : (b : Bool) → eqb v 0 ≡ b → (c : Bool) (e : ℕ) → cond b None (cond c (ToEntry e) Astray) ≡ None → v ≡ 0
-    by true k c e g = eqb-true v 0 k
-    by false k c e g = absurd (never c e g)
-
-pub link-end : (u : List ℕ) (r ptr : ℕ) → linkOf u r ptr ≡ End → ptr ≡ 0
-unfolding linkOf
-link-end u r ptr h = leadOf-none (pages u) ptr (by (leadOf (pages u) ptr) h)
-  where
-    fit : (q : ℕ) (b : Bool) → cond b Break (To q (entryAt q u)) ≡ End → ToEntry q ≡ None
-    fit q true k = let z : _≡_ {A = ℕ} 0 1 = cc in absurd (omega arith)
-    fit q false k = let z : _≡_ {A = ℕ} 0 1 = cc in absurd (omega arith)
-
-    by : (l : Lead) → linkAt u r l ≡ End → l ≡ None
-    by None k = refl
-    by Astray k = let z : _≡_ {A = ℕ} 0 1 = cc in absurd (omega arith)
-    by (ToEntry q) k = fit q (unfit r (entryAt q u)) k
+-- ---- links, and what becomes of them
 
 -- an end stays one, whatever becomes of the area
 link-end-kept : (u u′ : List ℕ) (r ptr : ℕ) → linkOf u r ptr ≡ End → linkOf u′ r ptr ≡ End
-link-end-kept u u′ r ptr h = ap (linkOf u′ r) (link-end u r ptr h) ∙ link-zero u′ r
+link-end-kept u u′ r ptr h = ap (linkOf u′ r) (link-none u r ptr h) ∙ link-zero u′ r
 
 -- and a link leads to its entry as long as that carries a version of the row
 link-moved : (u u′ : List ℕ) (r ptr e : ℕ) (m m′ : Entry) → linkOf u r ptr ≡ To e m → pages u′ ≡ pages u → entryAt e u′ ≡ m′ → Carries r m′
     → linkOf u′ r ptr ≡ To e m′
 link-moved u u′ r ptr e m m′ h size is c =
-    sym (link-to u′ r ptr refl e (ap (λ (n : ℕ). leadOf n ptr) size ∙ link-parts u r ptr e m h .leads) (sym is) (carries-unfit r m′ c))
+    sym (link-to u′ r ptr refl e (ap (λ (n : ℕ). leadOf n ptr) size ∙ link-real u r ptr e m h .leads) (sym is) (carries-unfit r m′ c))
 
 -- ---- one step
 
@@ -159,7 +56,7 @@ module _ {u : List ℕ} {r : ℕ} {ps : List ℕ} {ptr : ℕ} {x : Version} (s :
   step-slot = ap (λ (y : Version). y .slot) (s .is) ∙ ap (λ (m : Entry). m .copy) step-entry
 
   carries : Carries r (s .entry)
-  carries = link-parts u r ptr (entryIn x) (s .entry) (s .to) .carries
+  carries = link-real u r ptr (entryIn x) (s .entry) (s .to) .carries
 
   -- "one of another row" would break the chain
   pub step-row : entryAt (entryIn x) u .row ≡ r
@@ -210,7 +107,7 @@ strand-kept u u′ r w size (x ∷ xs) ps ptr same s = (
 )
   where
     earlier : (a b : Bool) → a || b ≡ false → b ≡ false
-    earlier true b h = absurd (true-false h)
+    earlier true b h = absurd (true≢false h)
     earlier false b h = h
 
 -- freeing an entry that was passed leaves what is behind it
@@ -274,19 +171,19 @@ module _ (u : List ℕ) (r : ℕ) where
     where
       on : (l : Link) → linkOf u r ptr ≡ l → IsStrand ps ptr (chainFrom u r zero ps ptr)
       on End h = subst (IsStrand ps ptr) (sym (chainFrom-end u r zero ps ptr h)) (λ w. h)
-      on Break h = subst (IsStrand ps ptr) (sym (chainFrom-break u r zero ps ptr h)) (λ w. absurd (true-false (sym w)))
-      on (To e m) h = subst (IsStrand ps ptr) (sym (chainFrom-full u r ps ptr e m h)) (λ w. absurd (true-false (sym w)))
+      on Break h = subst (IsStrand ps ptr) (sym (chainFrom-break u r zero ps ptr h)) (λ w. absurd (false≢true w))
+      on (To e m) h = subst (IsStrand ps ptr) (sym (chainFrom-full u r ps ptr e m h)) (λ w. absurd (false≢true w))
   chain-strand (suc fuel) ps ptr = on (linkOf u r ptr) refl (λ e m. chain-strand fuel (e ∷ ps) (m .copy .«undo_ptr»))
     where
       on : (l : Link) → linkOf u r ptr ≡ l
           → ((e : ℕ) (m : Entry) → IsStrand (e ∷ ps) (m .copy .«undo_ptr») (chainFrom u r fuel (e ∷ ps) (m .copy .«undo_ptr»)))
           → IsStrand ps ptr (chainFrom u r (suc fuel) ps ptr)
       on End h ih = subst (IsStrand ps ptr) (sym (chainFrom-end u r (suc fuel) ps ptr h)) (λ w. h)
-      on Break h ih = subst (IsStrand ps ptr) (sym (chainFrom-break u r (suc fuel) ps ptr h)) (λ w. absurd (true-false (sym w)))
+      on Break h ih = subst (IsStrand ps ptr) (sym (chainFrom-break u r (suc fuel) ps ptr h)) (λ w. absurd (false≢true w))
       on (To e m) h ih = by (among e ps) refl
         where
           by : (b : Bool) → among e ps ≡ b → IsStrand ps ptr (chainFrom u r (suc fuel) ps ptr)
-          by true p = subst (IsStrand ps ptr) (sym (chainFrom-passed u r ps ptr e m h (suc fuel) p)) (λ w. absurd (true-false (sym w)))
+          by true p = subst (IsStrand ps ptr) (sym (chainFrom-passed u r ps ptr e m h (suc fuel) p)) (λ w. absurd (false≢true w))
           by false p =
               subst (IsStrand ps ptr) (sym (chainFrom-on u r ps ptr e m h fuel p))
               (record { entry = m; to = h; fresh = p; is = refl }, ih e m)
@@ -324,26 +221,11 @@ module _ (u : List ℕ) (r : ℕ) where
 
 -- ---- the chain of a row
 
--- "an empty slot has no chain, whatever its other bytes"
-pub chainOf-empty : (d u : List ℕ) (r : ℕ) → slotAt r d .create ≡ 0 → chainOf d u r ≡ ended true
-unfolding chainOf
-chainOf-empty d u r h =
-    ap (λ (b : Bool). cond b (ended true) (onto (record { place = Data r; slot = slotAt r d }) (chainFrom u r (entries u) [] (slotAt r d .«undo_ptr»))))
-    (eq-eqb (slotAt r d .create) 0 h)
-
-pub chainOf-used : (d u : List ℕ) (r : ℕ) → (slotAt r d .create ≡ 0 → ⊥)
-    → chainOf d u r ≡ onto (record { place = Data r; slot = slotAt r d }) (chainFrom u r (entries u) [] (slotAt r d .«undo_ptr»))
-unfolding chainOf
-chainOf-used d u r used =
-    ap (λ (b : Bool). cond b (ended true) (onto (record { place = Data r; slot = slotAt r d }) (chainFrom u r (entries u) [] (slotAt r d .«undo_ptr»))))
-    (ne-eqb (slotAt r d .create) 0 used)
-
--- of a slot m, and a strand behind it
+-- a slot m, and a strand behind it
 pub chainOf-strand : (d u : List ℕ) (r : ℕ) (m : Slot) (xs : List Version) → slotAt r d ≡ m → (m .create ≡ 0 → ⊥)
     → length xs ≤ entries u
     → Strand u r true [] (m .«undo_ptr») xs
     → chainOf d u r ≡ record { versions = record { place = Data r; slot = m } ∷ xs; whole = true }
 chainOf-strand d u r m xs is used few s =
-    chainOf-used d u r (λ z. used (sym (ap (λ (x : Slot). x .create) is) ∙ z))
-    ∙ ap (λ (x : Slot). onto (record { place = Data r; slot = x }) (chainFrom u r (entries u) [] (x .«undo_ptr»))) is
+    chainOf-slot d u r m is used
     ∙ ap (onto (record { place = Data r; slot = m })) (strand-chain u r xs (entries u) [] (m .«undo_ptr») few s)

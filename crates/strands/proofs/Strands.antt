@@ -5,7 +5,7 @@ use mathlib.Core.Bool.{Bool, true, false, _||_, cond}
 use mathlib.Core.List.{List, [], _∷_}
 use Prim.Native.Nat.{ℕ, zero, suc, _/_, _<_}
 use lib.Dec.{eqb}
-use borrow.Author.Tests.{eqb-true, eqb-false, eq-eqb}
+use borrow.Author.Tests.{eqb-true, eqb-false}
 use Rattle.kind.specs.Kind.{pages, entries}
 use Rattle.pointer.specs.declared.Lead.{Lead}
 use Rattle.pointer.specs.declared.Lead.the-variants.{Nowhere as None, Entry as ToEntry, Astray}
@@ -17,7 +17,8 @@ use Rattle.chain.specs.declared.Place.the-variants.{Undo}
 use Rattle.chain.specs.declared.Link.{Link}
 use Rattle.chain.specs.declared.Link.the-variants.{End, Break, To}
 use Rattle.chain.specs.Chain.{Chain, onto, among, unfit, chainFrom, linkAt, linkOf}
-use Rattle.chain.proofs.Chains.{link-real, copyOf, chainFrom-end, chainFrom-break, chainFrom-passed, chainFrom-on, chainFrom-full}
+use Rattle.chain.proofs.Links.{unfit-free, link-real}
+use Rattle.chain.proofs.Chains.{copyOf, chainFrom-end, chainFrom-break, chainFrom-passed, chainFrom-on, chainFrom-full}
 use Rattle.freeing.specs.Freeing.{withoutEntry, sweptEntry}
 use Rattle.freeing.proofs.Freeings.{StoredEntry, length-stored, entryAt-stored-other, copyBodyAt-stored-other, withoutEntry-is, sweptEntry-is, writer-withoutEntry, writer-sweptEntry}
 use Rattle.strands.specs.Strands.{Frees}
@@ -54,10 +55,6 @@ abbrev pub less : (ℕ → Bool) → Link → Link
 less g End = End
 less g Break = Break
 less g (To q m) = cond (g q) Break (To q m)
-
-pub unfit-free : (t : ℕ) (m : Entry) → m .writer ≡ 0 → unfit t m ≡ true
-unfolding unfit
-unfit-free t m h = rw (eq-eqb (m .writer) 0 h)
 
 -- a pointer to a free entry breaks the chain, any other leads where it led
 pub link-freed : (e : ℕ) (u u′ : List ℕ) → Frees e u u′ → (r ptr : ℕ) → linkOf u′ r ptr ≡ less (λ (q : ℕ). eqb q e) (linkOf u r ptr)

@@ -15,17 +15,15 @@ use Rattle.chain.specs.declared.Place.{Place}
 use Rattle.chain.specs.declared.Place.the-variants.{Data, Undo}
 use Rattle.chain.specs.declared.Link.{Link}
 use Rattle.chain.specs.declared.Link.the-variants.{To}
-use Rattle.chain.specs.Chain.{Version, Chain, ended, onto, among, chainFrom, linkOf}
+use Rattle.chain.specs.Chain.{Version, Chain, onto, among, chainFrom, linkOf}
 use Rattle.chain.proofs.Chains.{copyOf, chainFrom-passed, chainFrom-on}
+use Rattle.chain.proofs.Rows.{broken}
 use Rattle.freeing.specs.Freeing.{Both, both}
 use Rattle.strands.specs.Strands.{entryIn, Strand}
 use Rattle.strands.proofs.Runs.{chain-strand, chain-few, strand-chain}
 use Rattle.strands.proofs.Strands.{link-inside, versions-out}
 use Rattle.trimming.specs.Trimming.{deadIn, inside, cutAt, sweptAll, sweptBehind, goneBehind}
 use Rattle.trimming.proofs.Rests.{versions-none}
-
-true-false : true ≡ false → ⊥
-true-false e = let z : _≡_ {A = ℕ} 0 1 = cc in omega arith
 
 -- ---- whole chains
 
@@ -55,10 +53,6 @@ whole-fresh u r left n ps ptr less w =
     strand-chain u r vs n [] ptr (omega (arith, chain-few u r left ps ptr)) (strand-fewer u r true vs ps [] ptr (λ t h. refl) strand)
     ∙ ap (λ (b : Bool). record { versions = vs; whole = b }) (sym w)
 
--- a chain that is broken is not whole
-broken : {c : Chain} → c ≡ ended false → c .whole ≡ true → ⊥
-broken is whole = true-false (sym whole ∙ ap (λ (c : Chain). c .whole) is)
-
 -- where a whole chain goes on, it has not passed the entry, and has some left to pass
 whole-on : (u : List ℕ) (r left : ℕ) (ps : List ℕ) (ptr e : ℕ) (m : Entry) → linkOf u r ptr ≡ To e m → chainFrom u r (suc left) ps ptr .whole ≡ true
     → chainFrom u r (suc left) ps ptr ≡ onto (copyOf e m) (chainFrom u r left (e ∷ ps) (m .copy .«undo_ptr»))
@@ -66,7 +60,7 @@ whole-on u r left ps ptr e m to w = by (among e ps) refl
   where
     by : (t : Bool) → among e ps ≡ t
         → chainFrom u r (suc left) ps ptr ≡ onto (copyOf e m) (chainFrom u r left (e ∷ ps) (m .copy .«undo_ptr»))
-    by true p = absurd (broken (chainFrom-passed u r ps ptr e m to (suc left) p) w)
+    by true p = absurd (broken (chainFrom u r (suc left) ps ptr) (chainFrom-passed u r ps ptr e m to (suc left) p) w)
     by false p = chainFrom-on u r ps ptr e m to left p
 
 -- ---- the walk to the first version that goes

@@ -12,7 +12,7 @@ use Rattle.records.specs.declared.slot.Slot.{Slot}
 use Rattle.records.specs.Slot.{slotAt}
 use Rattle.chain.specs.declared.Place.the-variants.{Data}
 use Rattle.chain.specs.Chain.{Version, Chain, onto, chainFrom, chainOf}
-use Rattle.chain.proofs.Walks.{slotVersion, chain-empty, chain-occupied}
+use Rattle.chain.proofs.Rows.{slotVersion, chainOf-empty, chainOf-used}
 use Rattle.strands.proofs.Runs.{chain-few}
 use Rattle.freeing.specs.Freeing.{sweptSlot, Both, both}
 use Rattle.trimming.specs.Trimming.{deadIn, sweptAll, sweptBehind, sweptVersions, sweptRow, goneBehind, goneRow}
@@ -39,7 +39,7 @@ gone-few mark s (x ∷ xs) = by (deadIn mark s (x .slot)) (gone-few mark s xs)
 module _ (d u : List ℕ) (r : ℕ) {x : Slot} (read : x ≡ slotAt r d) (some : x .create ≡ 0 → ⊥) where
   chain : chainOf d u r ≡ onto (version (Data r) x) (chainFrom u r (entries u) [] (x .«undo_ptr»))
   chain =
-      chain-occupied d u r (λ (z : slotAt r d .create ≡ 0). some (ap (λ (m : Slot). m .create) read ∙ z))
+      chainOf-used d u r (λ (z : slotAt r d .create ≡ 0). some (ap (λ (m : Slot). m .create) read ∙ z))
       ∙ ap (λ (m : Slot). onto (version (Data r) m) (chainFrom u r (entries u) [] (m .«undo_ptr»))) (sym read)
 
   versions : chainOf d u r .versions ≡ version (Data r) x ∷ older u r x
@@ -58,7 +58,7 @@ module _ (mark : ℕ) (s d u : List ℕ) (r : ℕ) where
   unfolding goneRow sweptRow goneBehind sweptVersions
   row-empty {x} read z =
       let none : chainOf d u r .versions ≡ []
-      = ap (λ (c : Chain). c .versions) (chain-empty d u r (ap (λ (m : Slot). m .create) (sym read) ∙ z)) in (
+      = ap (λ (c : Chain). c .versions) (chainOf-empty d u r (ap (λ (m : Slot). m .create) (sym read) ∙ z)) in (
         sym (ap (goneBehind mark s) none),
         sym (ap (λ (l : List Version). sweptVersions mark s r l (both d u)) none),
       )
@@ -107,9 +107,9 @@ module _ (mark : ℕ) (s d u : List ℕ) (r : ℕ) where
       long xs is h = let few : goneBehind mark s xs ≤ length xs = gone-few mark s xs in rw is (omega arith)
 
       by : (t : Bool) → eqb (slotAt r d .create) 0 ≡ t → goneBehind mark s (chainOf d u r .versions) ≤ suc (entries u)
-      by true h = long [] (ap (λ (c : Chain). c .versions) (chain-empty d u r (eqb-true (slotAt r d .create) 0 h))) (omega arith)
+      by true h = long [] (ap (λ (c : Chain). c .versions) (chainOf-empty d u r (eqb-true (slotAt r d .create) 0 h))) (omega arith)
       by false h =
           let few : length (older u r (slotAt r d)) ≤ entries u = chain-few u r (entries u) [] (slotAt r d .«undo_ptr») in
           long (slotVersion d r ∷ older u r (slotAt r d))
-          (ap (λ (c : Chain). c .versions) (chain-occupied d u r (eqb-false (slotAt r d .create) 0 h)))
+          (ap (λ (c : Chain). c .versions) (chainOf-used d u r (eqb-false (slotAt r d .create) 0 h)))
           (omega arith)

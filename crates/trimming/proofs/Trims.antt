@@ -18,6 +18,8 @@ use Rattle.chain.specs.declared.Place.{Place}
 use Rattle.chain.specs.declared.Place.the-variants.{Nowhere, Data, Undo}
 use Rattle.chain.specs.declared.Link.the-variants.{End}
 use Rattle.chain.specs.Chain.{Version, Chain, ended, onto, chainFrom, chainOf, linkOf}
+use Rattle.chain.proofs.Links.{link-zero, link-none}
+use Rattle.chain.proofs.Rows.{chainOf-empty, chainOf-used}
 use Rattle.freeing.specs.Freeing.{sweptSlot, sweptEntry, cutSlot, cutCopy, Both, both}
 use Rattle.freeing.proofs.Freeings.{slotAt-stored-other, bodyAt-stored-other, sweptSlot-is, create-sweptSlot, cutSlot-is, slotAt-cutSlot, bodyAt-cutSlot, entryAt-cutCopy}
 use Rattle.strands.specs.Strands.{Frees, Keeps, Shaped, Treated, RowIn, entryIn, Step, Strand, front, having, onLast}
@@ -26,7 +28,7 @@ use Rattle.strands.proofs.Apart.{chainOf-treated}
 use Rattle.records.proofs.Fits.{fit-slot, slotAt-fit, copy-fit}
 use Rattle.strands.proofs.Rows.{treated-refl}
 use Rattle.strands.proofs.Shapes.{shaped-refl, shaped-trans, shaped-sweptSlot, shaped-cutSlot, shaped-sweptEntry, shaped-cutCopy}
-use Rattle.strands.proofs.Runs.{link-zero, link-end, step-place, step-inside, step-slot, step-kept, step-cut, strand-freed, keeps-refl, keeps-fewer, keeps-first, keeps-freed, keeps-cut, chain-strand, chain-few, chainOf-empty, chainOf-used, chainOf-strand}
+use Rattle.strands.proofs.Runs.{step-place, step-inside, step-slot, step-kept, step-cut, strand-freed, keeps-refl, keeps-fewer, keeps-first, keeps-freed, keeps-cut, chain-strand, chain-few, chainOf-strand}
 use Rattle.trimming.specs.Trimming.{deadIn, sweptAt, sweptAll, unlinked, cutAt, sweptBehind, sweptVersions, sweptRow, goneBehind, goneRow}
 
 -- ---- a version that stays
@@ -38,7 +40,7 @@ unlinked-fit x f = fit-slot (unlinked x) (f .0) (f .1 .0) (omega arith) (f .1 .1
 unlinked-same : (u : List ℕ) (r : ℕ) (x : Slot) → linkOf u r (x .«undo_ptr») ≡ End → unlinked x ≡ x
 unlinked-same u r x h =
     ap (λ (p : ℕ). record { create = x .create; expire = x .expire; «undo_ptr» = p; cmd = x .cmd; «expire_cmd» = x .«expire_cmd» })
-    (sym (link-end u r (x .«undo_ptr») h))
+    (sym (link-none u r (x .«undo_ptr») h))
 
 step-fit : {u : List ℕ} {r : ℕ} {ps : List ℕ} {ptr : ℕ} {x : Version} → Step u r ps ptr x → Bytes u → SlotFit (unlinked (x .slot))
 step-fit {u} {r} {ps} {ptr} {x} s b =

@@ -15,7 +15,8 @@ use Rattle.chain.specs.declared.Walk.{Walk}
 use Rattle.chain.specs.declared.Walk.the-variants.{Absent, Broken}
 use Rattle.chain.specs.Chain.{Version, Chain, chainFrom, chainOf, linkOf}
 use Rattle.chain.proofs.Chains.{run, chain-run, run-out}
-use Rattle.chain.proofs.Walks.{Fails, first-none, chain-empty, chain-occupied}
+use Rattle.chain.proofs.Rows.{chainOf-empty, chainOf-used}
+use Rattle.chain.proofs.Walks.{Fails, first-none}
 
 -- the test that no version passes
 abbrev pub never : Slot → Bool
@@ -63,12 +64,12 @@ module _ (d u : List ℕ) (r : ℕ) where
   -- "an empty slot has no chain"
   pub whole-empty : {m : Slot} → m ≡ slotAt r d → m .create ≡ 0 → true ≡ chainOf d u r .whole
   whole-empty read h =
-      sym (ap (λ (c : Chain). c .whole) (chain-empty d u r (ap (λ (x : Slot). x .create) (sym read) ∙ h)))
+      sym (ap (λ (c : Chain). c .whole) (chainOf-empty d u r (ap (λ (x : Slot). x .create) (sym read) ∙ h)))
 
   module _ {m : Slot} (read : m ≡ slotAt r d) (some : m .create ≡ 0 → ⊥) where
     behind : chainOf d u r .whole ≡ rest u r (m .«undo_ptr») .whole
     behind =
-        ap (λ (c : Chain). c .whole) (chain-occupied d u r (λ (z : slotAt r d .create ≡ 0). some (ap (λ (x : Slot). x .create) read ∙ z)))
+        ap (λ (c : Chain). c .whole) (chainOf-used d u r (λ (z : slotAt r d .create ≡ 0). some (ap (λ (x : Slot). x .create) read ∙ z)))
         ∙ ap (λ (x : Slot). rest u r (x .«undo_ptr») .whole) (sym read)
 
     module _ {l : Link} (fuel looked : ℕ)

@@ -2,9 +2,9 @@
 -- page as they were. Assumes nothing.
 use mathlib.Core.Path.{_≡_, refl, sym, ap, _∙_}
 use mathlib.Core.List.{List}
-use Prim.Native.Nat.{ℕ, zero, suc}
-use Rattle.ground.specs.Refuse.{settle}
+use Prim.Native.Nat.{ℕ}
 use Rattle.ground.specs.Does.{Does}
+use Rattle.ground.proofs.Refusals.{settled}
 use Rattle.ground.proofs.Once.{once}
 use Rattle.answer.proofs.Codes.{codeOf-injective}
 use Rattle.places.specs.Open.{placeIn}
@@ -46,36 +46,27 @@ commit-once a d s r r′ x x′ p q = let o = once p q in (saidMoved-injective r
 
 pub begin-refused : (a : Areas) (d : Desk) → (beginRule a d .0 .0 ≡ 0 → ⊥) → (beginRule a d .0 .2 ≡ d) × (beginRule a d .1 ≡ a .status)
 unfolding beginRule
-begin-refused a d = by (beginRefusal a d)
-  where
-    rule : ℕ → (ℕ × ℕ × Desk) × List ℕ
-    rule m =
-        settle m
-        ((0, d .next, begun d), putField txnId 0 (d .next) (putStatus (d .next) InWork (a .status)))
-        (λ (n : ℕ). ((n, 0, d), a .status))
-
-    by : (m : ℕ) → (rule m .0 .0 ≡ 0 → ⊥) → (rule m .0 .2 ≡ d) × (rule m .1 ≡ a .status)
-    by zero h = absurd (h refl)
-    by (suc m) h = (refl, refl)
+begin-refused a d =
+    settled
+    ((0, d .next, begun d), putField txnId 0 (d .next) (putStatus (d .next) InWork (a .status)))
+    (λ (n : ℕ). ((n, 0, d), a .status))
+    (beginRefusal a d)
+    (λ (y : (ℕ × ℕ × Desk) × List ℕ). (y .0 .0 ≡ 0 → ⊥) → (y .0 .2 ≡ d) × (y .1 ≡ a .status))
+    (λ e h. absurd (h refl))
+    (λ m h. (refl, refl))
 
 pub next-refused-leaves : (a : Areas) (d : Desk) (x : ℕ) → (nextRule a d x .0 ≡ 0 → ⊥) → nextRule a d x .1 ≡ d
 unfolding nextRule
-next-refused-leaves a d x = by (nextRefusal a d x)
-  where
-    rule : ℕ → ℕ × Desk
-    rule m = settle m (0, moved (placeIn x (d .numbers)) d) (λ (n : ℕ). (n, d))
-
-    by : (m : ℕ) → (rule m .0 ≡ 0 → ⊥) → rule m .1 ≡ d
-    by zero h = absurd (h refl)
-    by (suc m) h = refl
+next-refused-leaves a d x =
+    settled (0, moved (placeIn x (d .numbers)) d) (λ (n : ℕ). (n, d)) (nextRefusal a d x)
+    (λ (y : ℕ × Desk). (y .0 ≡ 0 → ⊥) → y .1 ≡ d)
+    (λ e h. absurd (h refl))
+    (λ m h. refl)
 
 pub commit-refused-leaves : (a : Areas) (d : Desk) (x : ℕ) → (commitRule a d x .0 .0 ≡ 0 → ⊥) → (commitRule a d x .0 .1 ≡ d) × (commitRule a d x .1 ≡ a .status)
 unfolding commitRule
-commit-refused-leaves a d x = by (commitRefusal a d x)
-  where
-    rule : ℕ → (ℕ × Desk) × List ℕ
-    rule m = settle m ((0, closed (placeIn x (d .numbers)) d), putStatus x Committed (a .status)) (λ (n : ℕ). ((n, d), a .status))
-
-    by : (m : ℕ) → (rule m .0 .0 ≡ 0 → ⊥) → (rule m .0 .1 ≡ d) × (rule m .1 ≡ a .status)
-    by zero h = absurd (h refl)
-    by (suc m) h = (refl, refl)
+commit-refused-leaves a d x =
+    settled ((0, closed (placeIn x (d .numbers)) d), putStatus x Committed (a .status)) (λ (n : ℕ). ((n, d), a .status)) (commitRefusal a d x)
+    (λ (y : (ℕ × Desk) × List ℕ). (y .0 .0 ≡ 0 → ⊥) → (y .0 .1 ≡ d) × (y .1 ≡ a .status))
+    (λ e h. absurd (h refl))
+    (λ m h. (refl, refl))

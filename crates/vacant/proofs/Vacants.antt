@@ -1,7 +1,7 @@
 -- Laws of the lowest record that is not in use: a search page by page is one over the whole area, what the first 8 bytes of a record
 -- say is what its create or its writer says, and what was found is empty while everything below it is in use. Assumes nothing.
 use mathlib.Core.Path.{_≡_, refl, sym, ap, _∙_}
-use mathlib.Core.Bool.{Bool, true, false, not}
+use mathlib.Core.Bool.{Bool, true, false, not, Bool·not-not}
 use mathlib.Core.List.{List}
 use Prim.Native.Nat.{ℕ, zero, suc, _+_, _*_, _/_, _%_, _-_, _≤_, _<_}
 use native.Mathlib.Nat.{add-zero, mul-add-div-right, div-eq-of-lt, mul-add-mod-self-right, mod-eq-of-lt, mul-le-mul-right, zero-mul, suc-mul, sub-zero}
@@ -139,10 +139,6 @@ lowestFrom-start k s =
 
 -- ---- slots and entries
 
-not-not : (b : Bool) → not (not b) ≡ b
-not-not true = refl
-not-not false = refl
-
 -- "Create 0 means empty"
 pub lowest-data : (d : List ℕ) → lowest dataKind d ≡ lowestEmpty d
 unfolding lowest lowestEmpty
@@ -152,7 +148,7 @@ lowest-data d = first-agree (idleAt dataKind d) (λ (r : ℕ). eqb (slotAt r d .
     empty r =
         let e : r / 127 * 127 + r % 127 ≡ r = omega arith in
         ap not (inUse-slot (r / 127) (r % 127) d (omega arith))
-        ∙ not-not (eqb (slotAt (r / 127 * 127 + r % 127) d .create) 0)
+        ∙ Bool·not-not (eqb (slotAt (r / 127 * 127 + r % 127) d .create) 0)
         ∙ ap (λ (n : ℕ). eqb (slotAt n d .create) 0) e
 
 -- "writer (8; 0 means free)"
@@ -164,7 +160,7 @@ lowest-undo u = first-agree (idleAt undoKind u) (λ (e : ℕ). eqb (entryAt e u 
     free e =
         let is : e / 101 * 101 + e % 101 ≡ e = omega arith in
         ap not (inUse-entry (e / 101) (e % 101) u (omega arith))
-        ∙ not-not (eqb (entryAt (e / 101 * 101 + e % 101) u .writer) 0)
+        ∙ Bool·not-not (eqb (entryAt (e / 101 * 101 + e % 101) u .writer) 0)
         ∙ ap (λ (n : ℕ). eqb (entryAt n u .writer) 0) is
 
 -- ---- what a caller knows of the number it gets

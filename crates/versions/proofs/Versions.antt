@@ -7,7 +7,7 @@ use Prim.Native.Nat.{ℕ, zero, suc, _+_, _-_, _/_, _*_, _<_, _^_}
 use native.Mathlib.Omega.{arith}
 use lib.ListN.{length}
 use lib.Dec.{eqb}
-use borrow.Author.Tests.{eqb-true, eqb-false, eq-eqb, ne-eqb}
+use borrow.Author.Tests.{eqb-true, eqb-false, ne-eqb}
 use Rattle.kind.specs.Kind.{pages, rows, entries}
 use Rattle.pointer.specs.declared.Lead.{Lead}
 use Rattle.pointer.specs.declared.Lead.the-variants.{Nowhere as None, Entry as ToEntry, Astray}
@@ -25,65 +25,24 @@ use Rattle.chain.specs.declared.Place.the-variants.{Data, Undo}
 use Rattle.chain.specs.declared.Link.{Link}
 use Rattle.chain.specs.declared.Link.the-variants.{End, Break, To}
 use Rattle.chain.specs.Chain.{Chain, ended, onto, among, unfit, chainFrom, chainOf, linkAt, linkOf}
+use Rattle.chain.proofs.Links.{unfit-free, unfit-other, carries-unfit, Real, link-real}
+use Rattle.chain.proofs.Rows.{broken, chainOf-used, chainOf-slot, chainOf-agree}
 use Rattle.chain.proofs.Chains.{copyOf, chainFrom-end, chainFrom-break, chainFrom-passed, chainFrom-on, chainFrom-full}
 use Rattle.chain.proofs.Enough.{more}
 use Rattle.touching.proofs.Touchings.{WrittenEntry, length-written, slotAt-written-other, entryAt-written-other, withSlot-written, slotAt-withSlot, withMeta-written, slotAt-withMeta, withEntry-written, entryAt-withEntry}
 use Rattle.writing.specs.Writing.{made, expired, kept, inserted, updatedUndo, updatedData, deleted}
 use Rattle.versions.specs.Versions.{older, AllWhole, Fits, Takes}
 
-true-false : true ≡ false → ⊥
-true-false e = let z : _≡_ {A = ℕ} 0 1 = cc in omega arith
-
--- ---- chains depend on the areas through slots and links only
-
-module _ (u u' : List ℕ) (t : ℕ) (same : (ptr : ℕ) → linkOf u' t ptr ≡ linkOf u t ptr) where
-  pub chainFrom-agree : (fuel : ℕ) (ps : List ℕ) (ptr : ℕ) → chainFrom u' t fuel ps ptr ≡ chainFrom u t fuel ps ptr
-  chainFrom-agree zero ps ptr = on (linkOf u t ptr) refl
-    where
-      on : (l : Link) → linkOf u t ptr ≡ l → chainFrom u' t zero ps ptr ≡ chainFrom u t zero ps ptr
-      on End h = chainFrom-end u' t zero ps ptr (same ptr ∙ h) ∙ sym (chainFrom-end u t zero ps ptr h)
-      on Break h = chainFrom-break u' t zero ps ptr (same ptr ∙ h) ∙ sym (chainFrom-break u t zero ps ptr h)
-      on (To e m) h = chainFrom-full u' t ps ptr e m (same ptr ∙ h) ∙ sym (chainFrom-full u t ps ptr e m h)
-  chainFrom-agree (suc fuel) ps ptr = on (linkOf u t ptr) refl (λ e m. chainFrom-agree fuel (e ∷ ps) (m .copy .«undo_ptr»))
-    where
-      on : (l : Link) → linkOf u t ptr ≡ l
-          → ((e : ℕ) (m : Entry) → chainFrom u' t fuel (e ∷ ps) (m .copy .«undo_ptr») ≡ chainFrom u t fuel (e ∷ ps) (m .copy .«undo_ptr»))
-          → chainFrom u' t (suc fuel) ps ptr ≡ chainFrom u t (suc fuel) ps ptr
-      on End h g = chainFrom-end u' t (suc fuel) ps ptr (same ptr ∙ h) ∙ sym (chainFrom-end u t (suc fuel) ps ptr h)
-      on Break h g = chainFrom-break u' t (suc fuel) ps ptr (same ptr ∙ h) ∙ sym (chainFrom-break u t (suc fuel) ps ptr h)
-      on (To e m) h g = by (among e ps) refl
-        where
-          by : (b : Bool) → among e ps ≡ b → chainFrom u' t (suc fuel) ps ptr ≡ chainFrom u t (suc fuel) ps ptr
-          by true p = chainFrom-passed u' t ps ptr e m (same ptr ∙ h) (suc fuel) p ∙ sym (chainFrom-passed u t ps ptr e m h (suc fuel) p)
-          by false p =
-              chainFrom-on u' t ps ptr e m (same ptr ∙ h) fuel p
-              ∙ ap (onto (copyOf e m)) (g e m)
-              ∙ sym (chainFrom-on u t ps ptr e m h fuel p)
-
-  pub chainOf-agree : (d d' : List ℕ) → entries u' ≡ entries u → slotAt t d' ≡ slotAt t d → chainOf d' u' t ≡ chainOf d u t
-  unfolding chainOf
-  chainOf-agree d d' size slot =
-      ap (λ (m : Slot). cond (eqb (m .create) 0) (ended true) (onto (record { place = Data t; slot = m }) (chainFrom u' t (entries u') [] (m .«undo_ptr»)))) slot
-      ∙ ap (λ (c : Chain). cond (eqb (slotAt t d .create) 0) (ended true) (onto (record { place = Data t; slot = slotAt t d }) c))
-      (ap (λ (n : ℕ). chainFrom u' t n [] (slotAt t d .«undo_ptr»)) size
-      ∙ chainFrom-agree (entries u) [] (slotAt t d .«undo_ptr»))
-
 -- the chain of an occupied row: its slot, and what is older
 module _ (d u : List ℕ) (r : ℕ) (m : Slot) (is : slotAt r d ≡ m) (used : m .create ≡ 0 → ⊥) where
-  chainOf-used : chainOf d u r ≡ onto (record { place = Data r; slot = m }) (chainFrom u r (entries u) [] (m .«undo_ptr»))
-  unfolding chainOf
-  chainOf-used =
-      ap (λ (x : Slot). cond (eqb (x .create) 0) (ended true) (onto (record { place = Data r; slot = x }) (chainFrom u r (entries u) [] (x .«undo_ptr»)))) is
-      ∙ ap (λ (b : Bool). cond b (ended true) (onto (record { place = Data r; slot = m }) (chainFrom u r (entries u) [] (m .«undo_ptr»)))) (ne-eqb (m .create) 0 used)
-
   older-used : older (chainOf d u r) ≡ chainFrom u r (entries u) [] (m .«undo_ptr»)
-  older-used = ap older chainOf-used
+  older-used = ap older (chainOf-slot d u r m is used)
 
 -- so its first version is its slot
 pub chainOf-first : (d u : List ℕ) (r : ℕ) → (slotAt r d .create ≡ 0 → ⊥)
     → chainOf d u r ≡ onto (record { place = Data r; slot = slotAt r d }) (older (chainOf d u r))
 chainOf-first d u r used =
-    chainOf-used d u r (slotAt r d) refl used
+    chainOf-used d u r used
     ∙ ap (onto (record { place = Data r; slot = slotAt r d })) (sym (older-used d u r (slotAt r d) refl used))
 
 -- ---- what is written fits its fields
@@ -128,7 +87,7 @@ module _ (n c r : ℕ) (body d u : List ℕ) (long : length body ≡ 32) where
     pub chainOf-inserted-own : chainOf (inserted n c r body d) u r ≡ onto (record { place = Data r; slot = made n c 0 }) (ended true)
     unfolding inserted linkOf
     chainOf-inserted-own =
-        chainOf-used (inserted n c r body d) u r (made n c 0)
+        chainOf-slot (inserted n c r body d) u r (made n c 0)
         (slotAt-withSlot n r (made n c 0) body d long (f .row) (made-fit f 0 (omega arith)))
         (number-some f)
         ∙ ap (onto (record { place = Data r; slot = made n c 0 })) (chainFrom-end u r (entries u) [] 0 (ap (linkAt u r) (leadOf-zero (pages u))))
@@ -153,7 +112,7 @@ module _ (n c r : ℕ) (d u : List ℕ) where
     pub chainOf-deleted-own : chainOf (deleted n c r d) u r ≡ onto (record { place = Data r; slot = expired n c (slotAt r d) }) (older (chainOf d u r))
     unfolding deleted
     chainOf-deleted-own =
-        chainOf-used (deleted n c r d) u r (expired n c (slotAt r d))
+        chainOf-slot (deleted n c r d) u r (expired n c (slotAt r d))
         (slotAt-withMeta n r (expired n c (slotAt r d)) d (f .row) (expired-fit f))
         used
         ∙ ap (onto (record { place = Data r; slot = expired n c (slotAt r d) })) (sym (older-used d u r (slotAt r d) refl used))
@@ -167,25 +126,6 @@ module _ (n c r : ℕ) (d u : List ℕ) where
         all
 
 -- ---- update: a free entry is taken
-
-unfit-free : (t : ℕ) (m : Entry) → m .writer ≡ 0 → unfit t m ≡ true
-unfolding unfit
-unfit-free t m h = rw (eq-eqb (m .writer) 0 h)
-
-unfit-other : (t : ℕ) (m : Entry) → (m .row ≡ t → ⊥) → unfit t m ≡ true
-unfolding unfit
-unfit-other t m ne = rw (ne-eqb (m .row) t ne) (by (eqb (m .writer) 0))
-  where
-    by : (b : Bool) → ((b || true) || eqb (m .copy .create) 0) ≡ true
-    by true = refl
-    by false = refl
-
-unfit-none : (t : ℕ) (m : Entry) → (m .writer ≡ 0 → ⊥) → m .row ≡ t → (m .copy .create ≡ 0 → ⊥) → unfit t m ≡ false
-unfolding unfit
-unfit-none t m w e k = rw (ne-eqb (m .writer) 0 w, eq-eqb (m .row) t e, ne-eqb (m .copy .create) 0 k)
-
-broken : (x : Chain) → x ≡ ended false → x .whole ≡ true → ⊥
-broken x h w = true-false (sym w ∙ ap (λ (y : Chain). y .whole) h)
 
 -- u' is u with entry e, which was free, taken for row r
 record Taken (r e : ℕ) (u u' : List ℕ) : Type 0 where
@@ -227,19 +167,9 @@ module _ {r e : ℕ} {u u' : List ℕ} (k : Taken r e u u') where
   link-met t ptr goes = link-agree t ptr (λ h. absurd (goes (ap (linkAt u t) h ∙ free-break t)))
 
   link-apart : (t ptr q : ℕ) (m : Entry) → linkOf u t ptr ≡ To q m → q ≡ e → ⊥
-  unfolding linkOf
-  link-apart t ptr q m h same = by (leadOf (pages u) ptr) h
-    where
-      fit : (p : ℕ) (b : Bool) → unfit t (entryAt p u) ≡ b → cond b Break (To p (entryAt p u)) ≡ To q m → ⊥
-      fit p true g l = let z : _≡_ {A = ℕ} 0 1 = cc in omega arith
-      fit p false g l =
-          let to : p ≡ q = cc in
-          true-false (sym (unfit-free t (entryAt p u) (ap (λ (x : ℕ). entryAt x u .writer) (to ∙ same) ∙ k .free)) ∙ g)
-
-      by : (l : Lead) → linkAt u t l ≡ To q m → ⊥
-      by None l = let z : _≡_ {A = ℕ} 0 1 = cc in omega arith
-      by Astray l = let z : _≡_ {A = ℕ} 0 1 = cc in omega arith
-      by (ToEntry p) l = fit p (unfit t (entryAt p u)) refl l
+  link-apart t ptr q m h same =
+      let real : Real u t ptr q m = link-real u t ptr q m h in
+      real .carries .used (ap (λ (x : Entry). x .writer) (real .stands) ∙ ap (λ (x : ℕ). entryAt x u .writer) same ∙ k .free)
 
   -- a whole chain never meets e, so it is the same chain where e is taken and counts as passed: ps are the entries passed in u, qs
   -- those passed in u'
@@ -339,7 +269,7 @@ module _ (n c r e : ℕ) (body d u : List ℕ) (f : Fits n c r d) (g : Takes r e
         ap (λ (x : ℕ). linkAt undo' r (leadOf x (pointerTo e))) (taken .size)
         ∙ ap (linkAt undo' r) (leadOf-pointerTo (pages u) e (g .here) (g .few))
         ∙ ap (λ (m : Entry). cond (unfit r m) Break (To e m)) entry-is
-        ∙ ap (λ (b : Bool). cond b Break (To e entry)) (unfit-none r entry (number-some f) refl used)
+        ∙ ap (λ (b : Bool). cond b Break (To e entry)) (carries-unfit r entry (record { used = number-some f; row = refl; some = used }))
 
     module _ (whole : chainOf d u r .whole ≡ true) where
       -- and the copy to what was older; there is one entry fewer to pass, which is fuel enough, since e was passed
@@ -360,7 +290,7 @@ module _ (n c r e : ℕ) (body d u : List ℕ) (f : Fits n c r d) (g : Takes r e
       unfolding among
       chainOf-updated-own =
           let size : entries undo' ≡ suc (entries u - 1) = omega (arith, g .here, entries-same) in
-          chainOf-used data' undo' r slot slot-is (number-some f)
+          chainOf-slot data' undo' r slot slot-is (number-some f)
           ∙ ap (onto (record { place = Data r; slot = slot }))
           (ap (λ (x : ℕ). chainFrom undo' r x [] (pointerTo e)) size
           ∙ chainFrom-on undo' r [] (pointerTo e) e entry link-copy (entries u - 1) refl

@@ -3,7 +3,7 @@ use borrow.Author.Needs.{needs}
 use mathlib.Core.Path.{sym, _∙_}
 use Rattle.pointer.proofs.PointerLaws.{leadOf-inside}
 use Rattle.chain.specs.Chain.{unfit}
-use Rattle.chain.proofs.Chains.{link-end, link-astray, link-unfit, link-to}
+use Rattle.chain.proofs.Links.{link-end, link-astray, link-unfit, link-to}
 use Rattle.chain.proofs.follow.Statement.{statement}
 use Rattle.chain.proofs.follow.Tie as tie
 
