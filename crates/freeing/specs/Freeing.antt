@@ -28,12 +28,3 @@ cutSlot r m d = counted dataKind (r / slots) (putMeta r m d)
 
 unfoldable pub cutCopy : ℕ → Slot → List ℕ → List ℕ
 cutCopy e m u = counted undoKind (e / entriesToPage) (putCopy e m u)
-
--- ---- the two areas that withdraw and sweep write
-
-pub record Both : Type 0 where
-  pub «data» : List ℕ
-  pub undo : List ℕ
-
-abbrev pub both : List ℕ → List ℕ → Both
-both d u = record { «data» = d; undo = u }

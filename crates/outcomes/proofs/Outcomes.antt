@@ -10,10 +10,10 @@ use native.Mathlib.Omega.{arith}
 use lib.Dec.{eqb}
 use borrow.Author.Tests.{eqb-true, eqb-false, eq-eqb, ne-eqb}
 use Rattle.kind.specs.Kind.{rows, entries}
+use Rattle.kind.specs.Areas.{Both, both}
 use Rattle.records.specs.Slot.{slotAt}
 use Rattle.chain.specs.declared.Place.the-variants.{Data}
 use Rattle.chain.specs.Chain.{Version, Chain, onto, chainFrom, chainOf}
-use Rattle.freeing.specs.Freeing.{Both, both}
 use Rattle.strands.specs.Strands.{RowIn, RowsIn, Turns}
 use Rattle.chain.proofs.Rows.{chainOf-empty, chainOf-used}
 use Rattle.strands.proofs.Rows.{rows-others, rows-own}

@@ -10,6 +10,7 @@ use lib.Dec.{eqb, leb}
 use borrow.Author.Tests.{eqb-true, eqb-false}
 use Rattle.little.specs.Little.{Bytes}
 use Rattle.kind.specs.Kind.{rows, entries}
+use Rattle.kind.specs.Areas.{Both, both}
 use Rattle.records.specs.declared.slot.Slot.{Slot}
 use Rattle.records.specs.declared.entry.Entry.{Entry}
 use Rattle.records.specs.Slot.{slotAt, bodyAt}
@@ -25,7 +26,7 @@ use Rattle.chain.proofs.Chains.{chainFrom-end, chainFrom-break, chainFrom-full}
 use Rattle.chain.proofs.Rows.{chainOf-empty, chainOf-used}
 use Rattle.touching.specs.Touching.{withSlot, withMeta}
 use Rattle.touching.proofs.Touchings.{WrittenSlot, slotAt-written-other, bodyAt-written-other, withSlot-written, slotAt-withSlot, bodyAt-withSlot, withMeta-written, slotAt-withMeta, bodyAt-withMeta}
-use Rattle.freeing.specs.Freeing.{withoutSlot, withoutEntry, Both, both}
+use Rattle.freeing.specs.Freeing.{withoutSlot, withoutEntry}
 use Rattle.freeing.proofs.Freeings.{slotAt-stored-other, bodyAt-stored-other, withoutSlot-is, create-withoutSlot, bytes-withoutEntry}
 use Rattle.strands.specs.Strands.{Frees, Keeps, Shaped, Treated, RowIn, entryIn, Strand, rest, onFirst}
 use Rattle.strands.proofs.Strands.{withoutEntry-frees, link-inside, link-stands, freed-step}

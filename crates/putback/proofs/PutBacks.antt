@@ -11,6 +11,7 @@ use lib.Dec.{eqb, leb}
 use borrow.Author.Tests.{eqb-true}
 use Rattle.ground.proofs.Ranges.{and-true-left}
 use Rattle.kind.specs.Kind.{entries}
+use Rattle.kind.specs.Areas.{both}
 use Rattle.records.specs.declared.slot.Slot.{Slot}
 use Rattle.records.specs.declared.entry.Entry.{Entry}
 use Rattle.records.specs.Slot.{slotAt}
@@ -22,7 +23,7 @@ use Rattle.chain.specs.Chain.{Chain, onto, chainFrom, chainOf, linkOf}
 use Rattle.chain.proofs.Chains.{copyOf}
 use Rattle.chain.proofs.Rows.{slotVersion, chainOf-used}
 use Rattle.touching.specs.Touching.{withSlot, withMeta}
-use Rattle.freeing.specs.Freeing.{withoutSlot, withoutEntry, both}
+use Rattle.freeing.specs.Freeing.{withoutSlot, withoutEntry}
 use Rattle.strands.proofs.Strands.{withoutEntry-frees, link-inside, freed-step, versions-end, versions-break, versions-out}
 use Rattle.putback.specs.PutBack.{own, ownMade, unexpired, takenBack, undoneRow}
 

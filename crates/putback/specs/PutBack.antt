@@ -5,6 +5,7 @@ use mathlib.Core.Bool.{Bool, not, _&&_, cond}
 use mathlib.Core.List.{List, [], _∷_}
 use lib.ListN.{drop}
 use lib.Dec.{eqb, leb}
+use Rattle.kind.specs.Areas.{Both, both}
 use Rattle.records.specs.declared.slot.Slot.{Slot}
 use Rattle.records.specs.Slot.{slotAt}
 use Rattle.records.specs.Entry.{copyBodyAt}
@@ -12,7 +13,7 @@ use Rattle.chain.specs.declared.Place.{Place}
 use Rattle.chain.specs.declared.Place.the-variants.{Nowhere, Data, Undo}
 use Rattle.chain.specs.Chain.{Version, chainOf}
 use Rattle.touching.specs.Touching.{withSlot, withMeta}
-use Rattle.freeing.specs.Freeing.{withoutSlot, withoutEntry, Both, both}
+use Rattle.freeing.specs.Freeing.{withoutSlot, withoutEntry}
 
 -- x, at statement c, is S in statement k or later
 unfoldable pub own : ℕ → ℕ → ℕ → ℕ → Bool

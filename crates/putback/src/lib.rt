@@ -7,9 +7,10 @@ ghost use mathlib.Core.Path.{_≡_};
 ghost use mathlib.Core.List.{[]};
 ghost use Prim.Native.Nat.{_<_};
 ghost use Rattle.kind.specs.Kind.{rows, entries};
+ghost use Rattle.kind.specs.Areas.{both};
 ghost use Rattle.records.specs.Entry.{copyBodyAt};
 ghost use Rattle.touching.specs.Touching.{withSlot};
-ghost use Rattle.freeing.specs.Freeing.{withoutEntry, both};
+ghost use Rattle.freeing.specs.Freeing.{withoutEntry};
 ghost use Rattle.chain.specs.Chain.{chainFrom};
 ghost use Rattle.putback.specs.PutBack.{own, unexpired, takenBack, undoneRow};
 

@@ -27,7 +27,7 @@ use Rattle.chain.specs.Walk.{stampOf, walkRule}
 use Rattle.chain.proofs.Walks.{walk-empty}
 use Rattle.seeking.specs.declared.Sought.{Sought}
 use Rattle.seeking.specs.declared.Sought.the-variants.{Found, Refused}
-use Rattle.seeking.specs.Seeking.{noRow, isBroken, breaks, isAbsent, misses, says, unfound, soughtBy, seekRule, writeRefusal}
+use Rattle.seeking.specs.Seeking.{noRow, isBroken, breaks, isAbsent, misses, says, soughtBy, refusalIn, seekRule, writeRefusal}
 
 -- ---- the walk
 
@@ -195,11 +195,11 @@ module _ (d u s : List ℕ) (v : View) (r : ℕ) where
     pub seek-none : (tag : Walk → ℕ) → ((place : Place) (n : ℕ) → tag (At place n) ≡ 0)
         → (w : Walk) → (tag w ≡ 1) ⊎ (tag w ≡ 2)
         → w ≡ walkRule d u s v r
-        → {a : Answer} → a ≡ unfound w
+        → {a : Answer} → a ≡ refusalIn (soughtBy w)
         → Refused a ≡ seekRule d u s v r
     seek-none tag first w some told is = ap Refused is ∙ by w some ∙ ap soughtBy told ∙ sym seek-by
       where
-        by : (w : Walk) → (tag w ≡ 1) ⊎ (tag w ≡ 2) → Refused (unfound w) ≡ soughtBy w
+        by : (w : Walk) → (tag w ≡ 1) ⊎ (tag w ≡ 2) → Refused (refusalIn (soughtBy w)) ≡ soughtBy w
         by (At place n) some =
             absurd (⊎-elim (λ (q : tag (At place n) ≡ 1). omega (arith, first place n)) (λ (q : tag (At place n) ≡ 2). omega (arith, first place n)) some)
         by Absent some = refl

@@ -45,16 +45,16 @@ says d s v r n = eqb (conflictOf v s (stampOf (slotAt r d))) n
 
 -- ---- as the functions answer
 
--- what a walk without a version refuses
-abbrev pub unfound : Walk → Answer
-unfound (At place n) = Done
-unfound Absent = NotThere
-unfound Break = Broken
-
+-- what comes of a walk: the version found, or what a walk without one refuses
 abbrev pub soughtBy : Walk → Sought
 soughtBy (At place n) = Found place n
 soughtBy Absent = Refused NotThere
 soughtBy Break = Refused Broken
+
+-- the refusal alone
+abbrev pub refusalIn : Sought → Answer
+refusalIn (Found place n) = Done
+refusalIn (Refused a) = a
 
 unfoldable pub seekRule : List ℕ → List ℕ → List ℕ → View → ℕ → Sought
 seekRule d u s v r = cond (noRow d r) (Refused BadArgument) (soughtBy (walkRule d u s v r))

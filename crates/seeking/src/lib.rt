@@ -9,7 +9,7 @@ ghost use lib.ListN.{length};
 ghost use Rattle.answer.specs.Code.{codeOf};
 ghost use Rattle.kind.specs.Kind.{pageSize};
 ghost use Rattle.sight.specs.Sight.{viewOf};
-ghost use Rattle.seeking.specs.Seeking.{unfound, seekRule, writeRefusal};
+ghost use Rattle.seeking.specs.Seeking.{soughtBy, refusalIn, seekRule, writeRefusal};
 
 // The version that the session reads, with the number of versions looked at, or the refusal.
 pub enum Sought {
@@ -19,7 +19,7 @@ pub enum Sought {
 
 // What a walk without a version refuses: "broken chain met before a version is found", "no version there".
 fn none_found(w: Walk) -> Answer
-    ensures { λ r. ⌜ r ≡ unfound w ⌝ }
+    ensures { λ r. ⌜ r ≡ refusalIn (soughtBy w) ⌝ }
 {
     match w {
         Walk::Found(_, _) => Answer::Done,

@@ -8,8 +8,8 @@ use Prim.Native.Nat.{ℕ, zero, suc, _+_, _≤_, _<_}
 use native.Mathlib.Omega.{arith}
 use lib.Dec.{eqb}
 use borrow.Author.Tests.{eqb-true, eqb-false}
+use Rattle.kind.specs.Areas.{Both}
 use Rattle.chain.specs.Chain.{Chain, chainOf}
-use Rattle.freeing.specs.Freeing.{Both}
 use Rattle.strands.specs.Strands.{Copies, Shaped, Treated, RowIn, RowsIn, Turns}
 use Rattle.strands.proofs.Apart.{ofRow-refl, copies-refl, copies-trans, chainOf-treated}
 use Rattle.strands.proofs.Shapes.{shaped-refl, shaped-trans}

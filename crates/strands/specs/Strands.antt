@@ -7,6 +7,7 @@ use mathlib.Core.List.{List, [], _∷_}
 use lib.ListN.{length}
 use Rattle.little.specs.Little.{Bytes}
 use Rattle.kind.specs.Kind.{pages, rows}
+use Rattle.kind.specs.Areas.{Both}
 use Rattle.records.specs.declared.slot.Slot.{Slot}
 use Rattle.records.specs.declared.entry.Entry.{Entry}
 use Rattle.records.specs.Slot.{slotAt, bodyAt}
@@ -15,7 +16,6 @@ use Rattle.chain.specs.declared.Place.{Place}
 use Rattle.chain.specs.declared.Place.the-variants.{Nowhere, Data, Undo}
 use Rattle.chain.specs.declared.Link.the-variants.{End, To}
 use Rattle.chain.specs.Chain.{Version, among, linkOf}
-use Rattle.freeing.specs.Freeing.{Both}
 
 -- u′ is u with entry e freed, and every other entry as it was
 pub record Frees (e : ℕ) (u u′ : List ℕ) : Type 0 where

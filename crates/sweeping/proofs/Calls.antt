@@ -12,8 +12,7 @@ use Rattle.desk.specs.declared.Desk.{Desk}
 use Rattle.desk.specs.Sound.{sound}
 use Rattle.desk.specs.Turns.{mark}
 use Rattle.kind.specs.Kind.{rows, lengthsOk}
-use Rattle.kind.specs.Areas.{Areas, areas}
-use Rattle.freeing.specs.Freeing.{Both, both}
+use Rattle.kind.specs.Areas.{Areas, areas, Both, both}
 use Rattle.sweeping.specs.Sweeping.{treated, allWhole, sweptFrom, removedFrom, heldFrom, sweepRefusal, swept, sweepRule}
 use Rattle.sweeping.proofs.Treats.{Inside, ready, held-removed}
 

@@ -13,8 +13,7 @@ use Rattle.little.specs.Little.{Bytes}
 use Rattle.desk.specs.declared.Desk.{Desk}
 use Rattle.desk.specs.Turns.{mark}
 use Rattle.kind.specs.Kind.{rows}
-use Rattle.kind.specs.Areas.{Areas, areas}
-use Rattle.freeing.specs.Freeing.{both}
+use Rattle.kind.specs.Areas.{Areas, areas, both}
 use Rattle.sweeping.specs.Sweeping.{treated, heldFrom, sweepRefusal, swept, sweepRule}
 use Rattle.sweeping.proofs.Treats.{Same, rows-other}
 

@@ -11,9 +11,9 @@ use lib.ListN.{length, getD}
 use Rattle.ground.proofs.Ranges.{all-more, all-at, all-fails}
 use Rattle.little.specs.Little.{Bytes}
 use Rattle.kind.specs.Kind.{rows}
+use Rattle.kind.specs.Areas.{Both, both}
 use Rattle.records.specs.Slot.{slotAt, bodyAt}
 use Rattle.chain.specs.Chain.{Chain, chainOf}
-use Rattle.freeing.specs.Freeing.{Both, both}
 use Rattle.strands.specs.Strands.{RowIn, Treated}
 use Rattle.strands.proofs.Apart.{chainOf-treated}
 use Rattle.trimming.specs.Trimming.{goneRow, sweptRow}

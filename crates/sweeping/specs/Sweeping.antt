@@ -12,9 +12,8 @@ use Rattle.desk.specs.declared.Desk.{Desk}
 use Rattle.desk.specs.Sound.{sound}
 use Rattle.desk.specs.Turns.{mark}
 use Rattle.kind.specs.Kind.{rows}
-use Rattle.kind.specs.Areas.{Areas, areas, badLength}
+use Rattle.kind.specs.Areas.{Areas, areas, badLength, Both, both}
 use Rattle.chain.specs.Chain.{chainOf}
-use Rattle.freeing.specs.Freeing.{Both, both}
 use Rattle.trimming.specs.Trimming.{goneRow, sweptRow}
 use Rattle.sweeping.specs.declared.Swept.{Swept}
 

@@ -10,8 +10,7 @@ ghost use lib.ListN.{length};
 ghost use Rattle.ground.specs.Does.{Does};
 ghost use Rattle.answer.specs.Code.{codeOf};
 ghost use Rattle.kind.specs.Kind.{rows, lengthsOk};
-ghost use Rattle.kind.specs.Areas.{areas};
-ghost use Rattle.freeing.specs.Freeing.{both};
+ghost use Rattle.kind.specs.Areas.{areas, both};
 ghost use Rattle.sweeping.specs.Sweeping.{allWhole, sweptFrom, removedFrom, saidSwept, sweepRule};
 
 // What sweep answers: the next row and the versions removed, both 0 where it refuses.

@@ -9,6 +9,7 @@ use native.Mathlib.Omega.{arith}
 use lib.ListN.{length}
 use lib.Dec.{eqb}
 use Rattle.kind.specs.Kind.{rows, entries}
+use Rattle.kind.specs.Areas.{Both, both}
 use Rattle.records.specs.declared.slot.Slot.{Slot}
 use Rattle.records.specs.declared.entry.Entry.{Entry}
 use Rattle.chain.specs.declared.Place.{Place}
@@ -18,7 +19,6 @@ use Rattle.chain.specs.declared.Link.the-variants.{To}
 use Rattle.chain.specs.Chain.{Version, Chain, onto, among, chainFrom, linkOf}
 use Rattle.chain.proofs.Chains.{copyOf, chainFrom-passed, chainFrom-on}
 use Rattle.chain.proofs.Rows.{broken}
-use Rattle.freeing.specs.Freeing.{Both, both}
 use Rattle.strands.specs.Strands.{entryIn, Strand}
 use Rattle.strands.proofs.Runs.{chain-strand, chain-few, strand-chain}
 use Rattle.strands.proofs.Strands.{link-inside, versions-out}

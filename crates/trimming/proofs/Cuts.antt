@@ -6,12 +6,13 @@ use Prim.Native.Nat.{ℕ, _<_}
 use lib.ListN.{length}
 use lib.Dec.{ltb}
 use Rattle.kind.specs.Kind.{rows, entries}
+use Rattle.kind.specs.Areas.{both}
 use Rattle.sight.specs.Sight.{committed}
 use Rattle.sight.specs.Conflict.{isDead}
 use Rattle.records.specs.declared.slot.Slot.{Slot}
 use Rattle.chain.specs.declared.Place.{Place}
 use Rattle.chain.specs.declared.Place.the-variants.{Nowhere, Data, Undo}
-use Rattle.freeing.specs.Freeing.{cutSlot, cutCopy, both}
+use Rattle.freeing.specs.Freeing.{cutSlot, cutCopy}
 use Rattle.trimming.specs.Trimming.{deadIn, unlinked, cutAt, inside}
 
 -- ---- "whose expirer is committed and below the mark"

@@ -8,13 +8,14 @@ use lib.ListN.{length}
 use lib.Dec.{eqb}
 use borrow.Author.Tests.{eqb-true, eqb-false}
 use Rattle.kind.specs.Kind.{entries}
+use Rattle.kind.specs.Areas.{Both, both}
 use Rattle.records.specs.declared.slot.Slot.{Slot}
 use Rattle.records.specs.Slot.{slotAt}
 use Rattle.chain.specs.declared.Place.the-variants.{Data}
 use Rattle.chain.specs.Chain.{Version, Chain, onto, chainFrom, chainOf}
 use Rattle.chain.proofs.Rows.{slotVersion, chainOf-empty, chainOf-used}
 use Rattle.strands.proofs.Runs.{chain-few}
-use Rattle.freeing.specs.Freeing.{sweptSlot, Both, both}
+use Rattle.freeing.specs.Freeing.{sweptSlot}
 use Rattle.trimming.specs.Trimming.{deadIn, sweptAll, sweptBehind, sweptVersions, sweptRow, goneBehind, goneRow}
 use Rattle.trimming.proofs.Behinds.{older, version}
 

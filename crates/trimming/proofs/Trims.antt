@@ -10,6 +10,7 @@ use lib.Dec.{eqb}
 use borrow.Author.Tests.{eqb-true, eqb-false}
 use Rattle.little.specs.Little.{Bytes}
 use Rattle.kind.specs.Kind.{pages, entries}
+use Rattle.kind.specs.Areas.{Both, both}
 use Rattle.records.specs.declared.slot.Slot.{Slot}
 use Rattle.records.specs.declared.entry.Entry.{Entry}
 use Rattle.records.specs.Slot.{slotAt, bodyAt}
@@ -20,7 +21,7 @@ use Rattle.chain.specs.declared.Link.the-variants.{End}
 use Rattle.chain.specs.Chain.{Version, Chain, ended, onto, chainFrom, chainOf, linkOf}
 use Rattle.chain.proofs.Links.{link-zero, link-none}
 use Rattle.chain.proofs.Rows.{chainOf-empty, chainOf-used}
-use Rattle.freeing.specs.Freeing.{sweptSlot, sweptEntry, cutSlot, cutCopy, Both, both}
+use Rattle.freeing.specs.Freeing.{sweptSlot, sweptEntry, cutSlot, cutCopy}
 use Rattle.freeing.proofs.Freeings.{slotAt-stored-other, bodyAt-stored-other, sweptSlot-is, create-sweptSlot, cutSlot-is, slotAt-cutSlot, bodyAt-cutSlot, entryAt-cutCopy}
 use Rattle.strands.specs.Strands.{Frees, Keeps, Shaped, Treated, RowIn, entryIn, Step, Strand, front, having, onLast}
 use Rattle.strands.proofs.Strands.{sweptEntry-frees}

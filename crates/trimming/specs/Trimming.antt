@@ -5,13 +5,14 @@ use mathlib.Core.Bool.{Bool, cond}
 use mathlib.Core.List.{List, [], _∷_}
 use lib.ListN.{length}
 use Rattle.kind.specs.Kind.{rows, entries}
+use Rattle.kind.specs.Areas.{Both, both}
 use Rattle.records.specs.declared.slot.Slot.{Slot}
 use Rattle.sight.specs.Conflict.{isDead}
 use Rattle.chain.specs.declared.Place.{Place}
 use Rattle.chain.specs.declared.Place.the-variants.{Nowhere, Data, Undo}
 use Rattle.chain.specs.Chain.{Version, chainOf}
 use Rattle.chain.specs.Walk.{stampOf}
-use Rattle.freeing.specs.Freeing.{sweptSlot, sweptEntry, cutSlot, cutCopy, Both, both}
+use Rattle.freeing.specs.Freeing.{sweptSlot, sweptEntry, cutSlot, cutCopy}
 
 -- a version "whose expirer is committed and below the mark"
 abbrev pub deadIn : ℕ → List ℕ → Slot → Bool

@@ -10,9 +10,9 @@ ghost use mathlib.Core.List.{[]};
 ghost use Prim.Native.Nat.{_<_};
 ghost use lib.ListN.{length};
 ghost use Rattle.kind.specs.Kind.{pageSize, rows, entries};
+ghost use Rattle.kind.specs.Areas.{both};
 ghost use Rattle.chain.specs.declared.Place.the-variants.{Data};
 ghost use Rattle.chain.specs.Chain.{chainFrom, chainOf};
-ghost use Rattle.freeing.specs.Freeing.{both};
 ghost use Rattle.trimming.specs.Trimming.{deadIn, unlinked, inside, cutAt, sweptAll, sweptBehind, goneBehind, sweptRow, goneRow};
 
 // Whether a version's "expirer is committed and below the mark".

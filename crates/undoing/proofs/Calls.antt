@@ -11,10 +11,9 @@ use Rattle.desk.specs.declared.Desk.{Desk}
 use Rattle.desk.specs.Desk.{firstStatement}
 use Rattle.desk.specs.Turns.{closed}
 use Rattle.kind.specs.Kind.{rows}
-use Rattle.kind.specs.Areas.{Areas, areas}
+use Rattle.kind.specs.Areas.{Areas, areas, Both, both}
 use Rattle.status.specs.declared.Status.the-variants.{Withdrawn}
 use Rattle.status.specs.Status.{putStatus}
-use Rattle.freeing.specs.Freeing.{Both, both}
 use Rattle.admit.specs.declared.Admitted.the-variants.{Refused}
 use Rattle.admit.proofs.Admissions.{Admits, admission, refuses, goes-on, admits-at}
 use Rattle.undoing.specs.Undoing.{someBroken, undoneFrom, undone, withdrawRefusal, withdrawn, withdrawRule}

@@ -3,7 +3,7 @@ use mathlib.Core.Path.{_≡_, sym, ap, _∙_}
 use mathlib.Core.List.{List}
 use Prim.Native.Nat.{ℕ, suc, _+_, _-_, _≤_, _<_}
 use native.Mathlib.Omega.{arith}
-use Rattle.freeing.specs.Freeing.{Both, both}
+use Rattle.kind.specs.Areas.{Both, both}
 use Rattle.putback.specs.PutBack.{undoneRow}
 use Rattle.undoing.specs.Undoing.{undoneFrom}
 

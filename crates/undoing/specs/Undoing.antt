@@ -12,7 +12,7 @@ use Rattle.desk.specs.Desk.{firstStatement}
 use Rattle.desk.specs.Sound.{sound}
 use Rattle.desk.specs.Turns.{closed}
 use Rattle.kind.specs.Kind.{rows}
-use Rattle.kind.specs.Areas.{Areas, areas, badLength}
+use Rattle.kind.specs.Areas.{Areas, areas, badLength, Both, both}
 use Rattle.status.specs.declared.Status.the-variants.{Withdrawn as StatusWithdrawn}
 use Rattle.status.specs.Status.{putStatus}
 use Rattle.records.specs.declared.slot.Slot.{Slot}
@@ -20,7 +20,6 @@ use Rattle.records.specs.Slot.{slotAt}
 use Rattle.chain.specs.Chain.{chainOf}
 use Rattle.chain.specs.Walk.{firstIn}
 use Rattle.seeking.specs.Seeking.{isBroken}
-use Rattle.freeing.specs.Freeing.{Both, both}
 use Rattle.putback.specs.PutBack.{ownMade, undoneRow}
 use Rattle.undoing.specs.declared.Withdrawn.{Withdrawn}
 

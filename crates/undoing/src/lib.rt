@@ -9,8 +9,7 @@ ghost use mathlib.Core.Path.{_≡_};
 ghost use Prim.Native.Nat.{_<_};
 ghost use Rattle.ground.specs.Does.{Does};
 ghost use Rattle.kind.specs.Kind.{rows};
-ghost use Rattle.kind.specs.Areas.{areas};
-ghost use Rattle.freeing.specs.Freeing.{both};
+ghost use Rattle.kind.specs.Areas.{areas, both};
 ghost use Rattle.undoing.specs.Undoing.{someBroken, undoneFrom, saidWithdrawn, withdrawRule};
 
 // What withdraw answers: the desk, which a refusal leaves as it was.

@@ -10,10 +10,10 @@ use mathlib.Core.List.{[]}
 use native.Mathlib.Omega.{arith}
 use lib.ListN.{length}
 use Rattle.kind.specs.Kind.{entries}
+use Rattle.kind.specs.Areas.{both}
 use Rattle.chain.specs.declared.Link.the-variants.{To}
 use Rattle.chain.specs.Chain.{chainFrom, linkOf}
 use Rattle.chain.proofs.Link.{enum}
-use Rattle.freeing.specs.Freeing.{both}
 use Rattle.strands.proofs.Strands.{link-inside}
 use Rattle.putback.specs.PutBack.{takenBack}
 use Rattle.putback.proofs.PutBacks.{take-on, take-put, take-out, take-end}

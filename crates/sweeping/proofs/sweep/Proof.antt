@@ -10,8 +10,8 @@ use borrow.Author.Tests.{not-true, not-false}
 use Rattle.ground.proofs.Once.{does-case}
 use Rattle.desk.specs.Sound.{sound}
 use Rattle.kind.specs.Kind.{rows, lengthsOk}
+use Rattle.kind.specs.Areas.{both}
 use Rattle.kind.proofs.Lengths.{all-lent}
-use Rattle.freeing.specs.Freeing.{both}
 use Rattle.sweeping.specs.Sweeping.{treated, allWhole}
 use Rattle.sweeping.proofs.Treats.{Inside, inside}
 use Rattle.sweeping.proofs.Calls.{treats-quota, treats-rest, treats-few, sweep-1, sweep-2, sweep-5, sweep-6, sweep-0}

@@ -5,8 +5,8 @@ use mathlib.Core.Path.{_≡_, refl}
 use Prim.Native.Nat.{_≤_, _-_, _*_, _/_}
 use native.Mathlib.Omega.{arith}
 use lib.ListN.{length}
+use Rattle.kind.specs.Areas.{both}
 use Rattle.kind.proofs.Lengths.{all-lent, status-length}
-use Rattle.freeing.specs.Freeing.{both}
 use Rattle.sweeping.proofs.Treats.{Inside, Upto, inside, ready, upto-start, upto-whole, upto-next, upto-end, gone-few}
 use Rattle.sweeping.proofs.sweep_rows.Statement.{statement}
 use Rattle.sweeping.proofs.sweep_rows.Tie as tie

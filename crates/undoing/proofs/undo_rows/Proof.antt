@@ -5,7 +5,7 @@ use mathlib.Core.Path.{_≡_, refl, _∙_}
 use Prim.Native.Nat.{_≤_, _-_}
 use native.Mathlib.Omega.{arith}
 use lib.ListN.{length}
-use Rattle.freeing.specs.Freeing.{both}
+use Rattle.kind.specs.Areas.{both}
 use Rattle.undoing.specs.Undoing.{undoneFrom}
 use Rattle.undoing.proofs.Rounds.{rows-start, rows-on, rows-end}
 use Rattle.undoing.proofs.undo_rows.Statement.{statement}
