@@ -40,7 +40,7 @@ pub fn insert(
 ) -> Inserted
     ensures { λ r. ⌜ Does (insertRule (areas (now («data» .entry)) (now (undo .entry)) (now (status .entry))) desk session (now (body .entry))) (saidInserted r) (now («data» .exit)) ⌝ }
 {
-    let a = admit::admit(
+    let k = match admit::admit(
         data.len(),
         undo.len(),
         status.len(),
@@ -49,30 +49,29 @@ pub fn insert(
         &desk.statements,
         &desk.lists,
         session,
-    );
-    match a {
-        Admitted::Refused(answer) => Inserted { answer, row: 0 },
-        Admitted::At(k) => {
-            if body.len() != BODY {
-                return Inserted {
-                    answer: Answer::BadArgument,
-                    row: 0,
-                };
-            }
-            let row = vacant::lowest_empty(data);
-            if row == data.len() / Kind::PAGE * Kind::DATA.count {
-                return Inserted {
-                    answer: Answer::NoRoom,
-                    row: 0,
-                };
-            }
-            writing::insert_at(data, row, session, desk.statements[k], body);
-            Inserted {
-                answer: Answer::Done,
-                row,
-            }
-        }
+    ) {
+        Admitted::Refused(answer) => return unmade(answer),
+        Admitted::At(k) => k,
+    };
+    if body.len() != BODY {
+        return unmade(Answer::BadArgument);
     }
+    let row = vacant::lowest_empty(data);
+    if row == data.len() / Kind::PAGE * Kind::DATA.count {
+        return unmade(Answer::NoRoom);
+    }
+    writing::insert_at(data, row, session, desk.statements[k], body);
+    Inserted {
+        answer: Answer::Done,
+        row,
+    }
+}
+
+// A refused insert: no row.
+fn unmade(answer: Answer) -> Inserted
+    ensures { λ r. ⌜ saidInserted r ≡ (codeOf answer, 0) ⌝ }
+{
+    Inserted { answer, row: 0 }
 }
 
 // Replaces the row's version by a new one, and keeps the old one in the lowest free entry.
@@ -87,7 +86,7 @@ pub fn update(
 ) -> Answer
     ensures { λ r. ⌜ Does (updateRule (areas (now («data» .entry)) (now (undo .entry)) (now (status .entry))) desk session row (now (body .entry))) (codeOf r) (areas (now («data» .exit)) (now (undo .exit)) (now (status .exit))) ⌝ }
 {
-    let a = admit::admit(
+    let k = match admit::admit(
         data.len(),
         undo.len(),
         status.len(),
@@ -96,34 +95,24 @@ pub fn update(
         &desk.statements,
         &desk.lists,
         session,
-    );
-    match a {
-        Admitted::Refused(answer) => answer,
-        Admitted::At(k) => {
-            if body.len() != BODY {
-                return Answer::BadArgument;
-            }
-            let v = desk.view(k);
-            let refusal = seeking::may_write(
-                data,
-                undo,
-                status,
-                v.number,
-                v.statement,
-                &v.list,
-                row,
-            );
-            if answer::code(refusal) != 0 {
-                return refusal;
-            }
-            let e = vacant::lowest_free(undo);
-            if e == undo.len() / Kind::PAGE * Kind::UNDO.count {
-                return Answer::NoRoom;
-            }
-            writing::update_at(data, undo, row, e, session, v.statement, body);
-            Answer::Done
-        }
+    ) {
+        Admitted::Refused(answer) => return answer,
+        Admitted::At(k) => k,
+    };
+    if body.len() != BODY {
+        return Answer::BadArgument;
     }
+    let v = desk.view(k);
+    let refusal = seeking::may_write(data, undo, status, v.number, v.statement, &v.list, row);
+    if answer::code(refusal) != 0 {
+        return refusal;
+    }
+    let e = vacant::lowest_free(undo);
+    if e == undo.len() / Kind::PAGE * Kind::UNDO.count {
+        return Answer::NoRoom;
+    }
+    writing::update_at(data, undo, row, e, session, v.statement, body);
+    Answer::Done
 }
 
 // Ends the row's version.
@@ -137,7 +126,7 @@ pub fn delete<'a>(
 ) -> Answer
     ensures { λ r. ⌜ Does (deleteRule (areas (now («data» .entry)) (now (undo .entry)) (now (status .entry))) desk session row) (codeOf r) (now («data» .exit)) ⌝ }
 {
-    let a = admit::admit(
+    let k = match admit::admit(
         data.len(),
         undo.len(),
         status.len(),
@@ -146,27 +135,17 @@ pub fn delete<'a>(
         &desk.statements,
         &desk.lists,
         session,
-    );
-    match a {
-        Admitted::Refused(answer) => answer,
-        Admitted::At(k) => {
-            let v = desk.view(k);
-            let refusal = seeking::may_write(
-                data,
-                undo,
-                status,
-                v.number,
-                v.statement,
-                &v.list,
-                row,
-            );
-            if answer::code(refusal) != 0 {
-                return refusal;
-            }
-            writing::delete_at(data, row, session, v.statement);
-            Answer::Done
-        }
+    ) {
+        Admitted::Refused(answer) => return answer,
+        Admitted::At(k) => k,
+    };
+    let v = desk.view(k);
+    let refusal = seeking::may_write(data, undo, status, v.number, v.statement, &v.list, row);
+    if answer::code(refusal) != 0 {
+        return refusal;
     }
+    writing::delete_at(data, row, session, v.statement);
+    Answer::Done
 }
 
 // Finds the version that the session reads. `chain::body` hands its body back where it lies.
@@ -180,7 +159,7 @@ pub fn read<'a>(
 ) -> Seen
     ensures { λ r. ⌜ saidSeen r ≡ readRule (areas (now («data» .entry)) (now (undo .entry)) (now (status .entry))) desk session row ⌝ }
 {
-    let a = admit::admit(
+    let k = match admit::admit(
         data.len(),
         undo.len(),
         status.len(),
@@ -189,21 +168,19 @@ pub fn read<'a>(
         &desk.statements,
         &desk.lists,
         session,
-    );
-    match a {
-        Admitted::Refused(answer) => unseen(answer),
-        Admitted::At(k) => {
-            let v = desk.view(k);
-            let sought = seeking::seek(data, undo, status, v.number, v.statement, &v.list, row);
-            match sought {
-                Sought::Refused(answer) => unseen(answer),
-                Sought::Found(at, looked) => Seen {
-                    answer: Answer::Done,
-                    place: at,
-                    looked,
-                },
-            }
-        }
+    ) {
+        Admitted::Refused(answer) => return unseen(answer),
+        Admitted::At(k) => k,
+    };
+    let v = desk.view(k);
+    let sought = seeking::seek(data, undo, status, v.number, v.statement, &v.list, row);
+    match sought {
+        Sought::Refused(answer) => unseen(answer),
+        Sought::Found(at, looked) => Seen {
+            answer: Answer::Done,
+            place: at,
+            looked,
+        },
     }
 }
 

@@ -10,17 +10,20 @@ use Rattle.rows.proofs.delete.Tie as tie
 -- the session was admitted, at the place that admission gave
 admitted : (c : tie.After-known-told2)
     → let start = c .before .before .before .before .before .before .before .before .before .before .before .args in
-    Admits (start .«data» .now) (start .undo .now) (start .status .now) (start .t4) (start .session) (c .before .a2 .given .0 .0)
-admitted c = admits _ _ _ _ _ _ (sym (c .before .before .before .admit .ensures) ∙ c .before .a2 .given .1)
+    Admits (start .«data» .now) (start .undo .now) (start .status .now) (start .t4) (start .session) (c .before .k .given .0 .0)
+admitted c = admits _ _ _ _ _ _ (sym (c .before .before .before .admit .ensures) ∙ c .before .k .given .1)
 
 admit-requires : tie.Need-admit-requires
 admit-requires c κs = search needs
 
-enum-known-a : tie.Need-enum-known-a
-enum-known-a c = search needs
+enum-known-answer : tie.Need-enum-known-answer
+enum-known-answer c = search needs
 
-enum-known-a-2 : tie.Need-enum-known-a-2
-enum-known-a-2 c = search needs
+returns : tie.Need-returns
+returns c = does-case (delete-refused _ _ _ _ _ _ _ (sym (c .before .before .before .admit .ensures) ∙ c .before .answer .given .1)) refl refl
+
+enum-known-k : tie.Need-enum-known-k
+enum-known-k c = search needs
 
 view-requires : tie.Need-view-requires
 view-requires c κs = admits-place _ _ _ _ _ _ (admitted c)
@@ -34,8 +37,8 @@ code-requires c κs = search needs
 same-length : tie.Need-same-length
 same-length c = search needs
 
-returns : tie.Need-returns
-returns c =
+returns-2 : tie.Need-returns-2
+returns-2 c =
     let asked = c .before .before in
     let view = asked .before .before .before .before in
     does-case
@@ -49,9 +52,6 @@ delete-at-requires c κs =
     let asked = free .before .before in
     let view = asked .before .before .before .before in
     write-inside _ _ _ _ _ _ (admitted (view .before)) _ (view .view .ensures) (asked .may-write .ensures) (sym (free .before .code .ensures) ∙ free .if1 .left)
-
-returns-2 : tie.Need-returns-2
-returns-2 c = does-case (delete-refused _ _ _ _ _ _ _ (sym (c .before .before .before .admit .ensures) ∙ c .before .a .given .1)) refl refl
 
 same-length-2 : tie.Need-same-length-2
 same-length-2 c = search needs
@@ -72,14 +72,14 @@ delete-spec =
     tie.close
     (tie.spec
     admit-requires
-    enum-known-a
-    enum-known-a-2
+    enum-known-answer
+    returns
+    enum-known-k
     view-requires
     may-write-requires
     code-requires
     same-length
-    returns
-    delete-at-requires
     returns-2
+    delete-at-requires
     same-length-2
     returns-3)

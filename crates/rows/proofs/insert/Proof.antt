@@ -11,20 +11,33 @@ use Rattle.rows.proofs.insert.Tie as tie
 -- the session was admitted, at the place that admission gave
 admitted : (c : tie.After-known-told2)
     → let start = c .before .before .before .before .before .before .before .before .before .before .before .before .args in
-    Admits (start .«data» .now) (start .undo .now) (start .status .now) (start .t4) (start .session) (c .before .a2 .given .0 .0)
-admitted c = admits _ _ _ _ _ _ (sym (c .before .before .before .admit .ensures) ∙ c .before .a2 .given .1)
+    Admits (start .«data» .now) (start .undo .now) (start .status .now) (start .t4) (start .session) (c .before .k .given .0 .0)
+admitted c = admits _ _ _ _ _ _ (sym (c .before .before .before .admit .ensures) ∙ c .before .k .given .1)
 
 admit-requires : tie.Need-admit-requires
 admit-requires c κs = search needs
 
-enum-known-a : tie.Need-enum-known-a
-enum-known-a c = search needs
+enum-known-answer : tie.Need-enum-known-answer
+enum-known-answer c = search needs
 
-enum-known-a-2 : tie.Need-enum-known-a-2
-enum-known-a-2 c = search needs
+unmade-requires : tie.Need-unmade-requires
+unmade-requires c κs = search needs
 
 returns : tie.Need-returns
-returns c = does-case (insert-5 _ _ _ _ _ _ _ (admitted (c .before)) (c .if1 .taken)) refl refl
+returns c =
+    let told = c .before .before in
+    does-case (insert-refused _ _ _ _ _ _ _ (sym (told .before .before .admit .ensures) ∙ told .answer .given .1)) (c .unmade .ensures) refl
+
+enum-known-k : tie.Need-enum-known-k
+enum-known-k c = search needs
+
+unmade-requires-2 : tie.Need-unmade-requires-2
+unmade-requires-2 c κs = search needs
+
+returns-2 : tie.Need-returns-2
+returns-2 c =
+    let short = c .before in
+    does-case (insert-5 _ _ _ _ _ _ _ (admitted (short .before)) (short .if1 .taken)) (c .unmade2 .ensures) refl
 
 lowest-empty-requires : tie.Need-lowest-empty-requires
 lowest-empty-requires c κs = let few = admits-lent _ _ _ _ _ _ (admitted (c .before .before)) .inData .few in omega (arith, few)
@@ -32,14 +45,21 @@ lowest-empty-requires c κs = let few = admits-lent _ _ _ _ _ _ (admitted (c .be
 mul-if2 : tie.Need-mul-if2
 mul-if2 c = search needs
 
+unmade-requires-3 : tie.Need-unmade-requires-3
+unmade-requires-3 c κs = search needs
+
 same-length : tie.Need-same-length
 same-length c = search needs
 
-returns-2 : tie.Need-returns-2
-returns-2 c =
-    let found = c .before .before in
+returns-3 : tie.Need-returns-3
+returns-3 c =
+    let full = c .before in
+    let found = full .before .before in
     let long = found .before .before in
-    does-case (insert-11 _ _ _ _ _ _ _ (admitted (long .before)) (long .if1 .left) (found .lowest-empty .ensures) (c .if2 .taken)) refl refl
+    does-case
+    (insert-11 _ _ _ _ _ _ _ (admitted (long .before)) (long .if1 .left) (found .lowest-empty .ensures) (full .if2 .taken))
+    (c .unmade3 .ensures)
+    refl
 
 mul-insert-at : tie.Need-mul-insert-at
 mul-insert-at c =
@@ -55,9 +75,6 @@ insert-at-requires c κs =
     let found = full .before .before in
     let long = found .before .before in
     (insert-inside _ (found .lowest-empty .ensures) (full .if2 .left), long .if1 .left)
-
-returns-3 : tie.Need-returns-3
-returns-3 c = does-case (insert-refused _ _ _ _ _ _ _ (sym (c .before .before .before .admit .ensures) ∙ c .before .a .given .1)) refl refl
 
 same-length-2 : tie.Need-same-length-2
 same-length-2 c = search needs
@@ -78,16 +95,19 @@ insert-spec =
     tie.close
     (tie.spec
     admit-requires
-    enum-known-a
-    enum-known-a-2
+    enum-known-answer
+    unmade-requires
     returns
+    enum-known-k
+    unmade-requires-2
+    returns-2
     lowest-empty-requires
     mul-if2
+    unmade-requires-3
     same-length
-    returns-2
+    returns-3
     mul-insert-at
     element-copy-out-insert-at
     insert-at-requires
-    returns-3
     same-length-2
     returns-4)

@@ -9,20 +9,25 @@ use Rattle.rows.proofs.read.Tie as tie
 -- the session was admitted, at the place that admission gave
 admitted : (c : tie.After-known-told2)
     → let start = c .before .before .before .before .before .before .before .before .before .before .before .args in
-    Admits (start .«data» .now) (start .undo .now) (start .status .now) (start .t4) (start .session) (c .before .a2 .given .0 .0)
-admitted c = admits _ _ _ _ _ _ (sym (c .before .before .before .admit .ensures) ∙ c .before .a2 .given .1)
+    Admits (start .«data» .now) (start .undo .now) (start .status .now) (start .t4) (start .session) (c .before .k .given .0 .0)
+admitted c = admits _ _ _ _ _ _ (sym (c .before .before .before .admit .ensures) ∙ c .before .k .given .1)
 
 admit-requires : tie.Need-admit-requires
 admit-requires c κs = search needs
 
-enum-known-a : tie.Need-enum-known-a
-enum-known-a c = search needs
+enum-known-answer : tie.Need-enum-known-answer
+enum-known-answer c = search needs
 
 unseen-requires : tie.Need-unseen-requires
 unseen-requires c κs = search needs
 
-enum-known-a-2 : tie.Need-enum-known-a-2
-enum-known-a-2 c = search needs
+returns : tie.Need-returns
+returns c =
+    let told = c .before .before in
+    c .unseen .ensures ∙ sym (read-refused _ _ _ _ _ _ _ (sym (told .before .before .admit .ensures) ∙ told .answer .given .1))
+
+enum-known-k : tie.Need-enum-known-k
+enum-known-k c = search needs
 
 view-requires : tie.Need-view-requires
 view-requires c κs = admits-place _ _ _ _ _ _ (admitted c)
@@ -38,11 +43,6 @@ unseen-requires-2 c κs = search needs
 
 enum-known-sought-2 : tie.Need-enum-known-sought-2
 enum-known-sought-2 c = search needs
-
-returns : tie.Need-returns
-returns c =
-    let told = c .before .before in
-    c .unseen .ensures ∙ sym (read-refused _ _ _ _ _ _ _ (sym (told .before .before .admit .ensures) ∙ told .a .given .1))
 
 returns-2 : tie.Need-returns-2
 returns-2 c =
@@ -64,14 +64,14 @@ read-spec =
     tie.close
     (tie.spec
     admit-requires
-    enum-known-a
+    enum-known-answer
     unseen-requires
-    enum-known-a-2
+    returns
+    enum-known-k
     view-requires
     seek-requires
     enum-known-sought
     unseen-requires-2
     enum-known-sought-2
-    returns
     returns-2
     returns-3)

@@ -14,8 +14,8 @@ use Rattle.rows.proofs.update.Tie as tie
 -- the session was admitted, at the place that admission gave
 admitted : (c : tie.After-known-told2)
     → let start = c .before .before .before .before .before .before .before .before .before .before .before .before .args in
-    Admits (start .«data» .now) (start .undo .now) (start .status .now) (start .t4) (start .session) (c .before .a2 .given .0 .0)
-admitted c = admits _ _ _ _ _ _ (sym (c .before .before .before .admit .ensures) ∙ c .before .a2 .given .1)
+    Admits (start .«data» .now) (start .undo .now) (start .status .now) (start .t4) (start .session) (c .before .k .given .0 .0)
+admitted c = admits _ _ _ _ _ _ (sym (c .before .before .before .admit .ensures) ∙ c .before .k .given .1)
 
 -- where nothing is refused, how many pages were lent
 lent : (c : tie.Else2)
@@ -26,14 +26,17 @@ lent c = admits-lent _ _ _ _ _ _ (admitted (c .before .before .before .before .b
 admit-requires : tie.Need-admit-requires
 admit-requires c κs = search needs
 
-enum-known-a : tie.Need-enum-known-a
-enum-known-a c = search needs
-
-enum-known-a-2 : tie.Need-enum-known-a-2
-enum-known-a-2 c = search needs
+enum-known-answer : tie.Need-enum-known-answer
+enum-known-answer c = search needs
 
 returns : tie.Need-returns
-returns c = does-case (update-5 _ _ _ _ _ _ _ _ (admitted (c .before)) (c .if1 .taken)) refl refl
+returns c = does-case (update-refused _ _ _ _ _ _ _ _ (sym (c .before .before .before .admit .ensures) ∙ c .before .answer .given .1)) refl refl
+
+enum-known-k : tie.Need-enum-known-k
+enum-known-k c = search needs
+
+returns-2 : tie.Need-returns-2
+returns-2 c = does-case (update-5 _ _ _ _ _ _ _ _ (admitted (c .before)) (c .if1 .taken)) refl refl
 
 view-requires : tie.Need-view-requires
 view-requires c κs = admits-place _ _ _ _ _ _ (admitted (c .before))
@@ -50,8 +53,8 @@ same-length c = search needs
 same-length-2 : tie.Need-same-length-2
 same-length-2 c = search needs
 
-returns-2 : tie.Need-returns-2
-returns-2 c =
+returns-3 : tie.Need-returns-3
+returns-3 c =
     let asked = c .before .before in
     let view = asked .before .before .before .before .before in
     let long = view .before in
@@ -72,8 +75,8 @@ same-length-3 c = search needs
 same-length-4 : tie.Need-same-length-4
 same-length-4 c = search needs
 
-returns-3 : tie.Need-returns-3
-returns-3 c =
+returns-4 : tie.Need-returns-4
+returns-4 c =
     let found = c .before .before in
     let free = found .before .before in
     let asked = free .before .before in
@@ -96,9 +99,6 @@ update-at-requires c κs =
     let inside = write-inside _ _ _ _ _ _ (admitted (long .before)) _ (view .view .ensures) (asked .may-write .ensures) (sym (free .before .code .ensures) ∙ free .if2 .left) in
     let room = update-inside _ (found .lowest-free .ensures) (some .if3 .left) in
     (inside, small-number (fits .inData .few) (omega arith) inside, room, small-number (fits .inUndo .few) (omega arith) room, long .if1 .left)
-
-returns-4 : tie.Need-returns-4
-returns-4 c = does-case (update-refused _ _ _ _ _ _ _ _ (sym (c .before .before .before .admit .ensures) ∙ c .before .a .given .1)) refl refl
 
 same-length-5 : tie.Need-same-length-5
 same-length-5 c = search needs
@@ -125,22 +125,22 @@ update-spec =
     tie.close
     (tie.spec
     admit-requires
-    enum-known-a
-    enum-known-a-2
+    enum-known-answer
     returns
+    enum-known-k
+    returns-2
     view-requires
     may-write-requires
     code-requires
     same-length
     same-length-2
-    returns-2
+    returns-3
     lowest-free-requires
     mul-if3
     same-length-3
     same-length-4
-    returns-3
-    update-at-requires
     returns-4
+    update-at-requires
     same-length-5
     same-length-6
     returns-5)
