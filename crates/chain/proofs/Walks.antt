@@ -25,8 +25,8 @@ use Rattle.chain.specs.declared.Walk.the-variants.{Found, Absent, Broken
 use Rattle.chain.specs.Chain.{Version, Chain, chainFrom, chainOf, linkOf, among}
 use Rattle.chain.specs.Walk.{stampOf, thereIn, firstIn, walkRule, followRule, bodyOf}
 use Rattle.chain.proofs.Links.{Real, link-real}
-use Rattle.chain.proofs.Rows.{chainOf-empty, chainOf-used}
 use Rattle.chain.proofs.Chains.{run, chain-run, chainFrom-end, chainFrom-break, chainFrom-passed, chainFrom-on, chainFrom-full}
+use Rattle.chain.proofs.Rows.{chainOf-empty, chainOf-used}
 use Rattle.chain.proofs.Bodies.{length-slot-body, length-copy-body}
 
 -- ---- where the versions lie

@@ -14,8 +14,8 @@ use Rattle.kind.specs.Areas.{Both, both}
 use Rattle.records.specs.Slot.{slotAt}
 use Rattle.chain.specs.declared.Place.the-variants.{Data}
 use Rattle.chain.specs.Chain.{Version, Chain, onto, chainFrom, chainOf}
-use Rattle.strands.specs.Strands.{RowIn, RowsIn, Turns}
 use Rattle.chain.proofs.Rows.{chainOf-empty, chainOf-used}
+use Rattle.strands.specs.Strands.{RowIn, RowsIn, Turns}
 use Rattle.strands.proofs.Rows.{rows-others, rows-own}
 use Rattle.putback.specs.PutBack.{own, ownMade, undoneRow}
 use Rattle.undoing.specs.Undoing.{undoneFrom, undone}

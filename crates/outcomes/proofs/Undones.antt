@@ -16,6 +16,8 @@ use Rattle.records.specs.declared.entry.Entry.{Entry}
 use Rattle.records.specs.Slot.{slotAt, bodyAt}
 use Rattle.records.specs.Entry.{copyBodyAt}
 use Rattle.records.proofs.Slots.{SlotFit}
+use Rattle.records.proofs.Bodies.{length-copyBodyAt, bytes-copyBodyAt}
+use Rattle.records.proofs.Fits.{fit-slot, slotAt-fit, copy-fit}
 use Rattle.chain.specs.declared.Place.{Place}
 use Rattle.chain.specs.declared.Place.the-variants.{Nowhere, Data, Undo}
 use Rattle.chain.specs.declared.Link.{Link}
@@ -29,10 +31,8 @@ use Rattle.touching.proofs.Touchings.{WrittenSlot, slotAt-written-other, bodyAt
 use Rattle.freeing.specs.Freeing.{withoutSlot, withoutEntry}
 use Rattle.freeing.proofs.Freeings.{slotAt-stored-other, bodyAt-stored-other, withoutSlot-is, create-withoutSlot, bytes-withoutEntry}
 use Rattle.strands.specs.Strands.{Frees, Keeps, Shaped, Treated, RowIn, entryIn, Strand, rest, onFirst}
-use Rattle.strands.proofs.Strands.{withoutEntry-frees, link-inside, link-stands, freed-step}
+use Rattle.strands.proofs.Strands.{withoutEntry-frees, freed-step}
 use Rattle.strands.proofs.Apart.{ofRow-refl, copies-refl, chainOf-treated}
-use Rattle.records.proofs.Bodies.{length-copyBodyAt, bytes-copyBodyAt}
-use Rattle.records.proofs.Fits.{fit-slot, slotAt-fit, copy-fit}
 use Rattle.strands.proofs.Gone.{Gone, gone-none, gone-freed, gone-enough}
 use Rattle.strands.proofs.Rows.{treated-refl}
 use Rattle.strands.proofs.Shapes.{shaped-refl, shaped-trans, shaped-withoutSlot, shaped-withMeta, shaped-withSlot, shaped-withoutEntry}
@@ -160,10 +160,10 @@ module _ (n k r : ℕ) (d : List ℕ) where
             subst (Taken u) (sym (freed-step r fuel ptr u (withoutEntry n e u) e m h freed)) (by (ownMade n k (m .copy)) (ih e m gone))
           where
             here : e < entries u
-            here = link-inside u r ptr e m h
+            here = link-real u r ptr e m h .inside
 
             freed : Frees e u (withoutEntry n e u)
-            freed = withoutEntry-frees n e u (link-inside u r ptr e m h)
+            freed = withoutEntry-frees n e u (link-real u r ptr e m h .inside)
 
             gone : Gone r v (withoutEntry n e u) (e ∷ ps) fuel
             gone = gone-freed r v u (withoutEntry n e u) ps fuel ptr e m g h freed
@@ -180,7 +180,7 @@ module _ (n k r : ℕ) (d : List ℕ) where
             is : slotAt r (withSlot n r (unexpired (m .copy)) (copyBodyAt e u) d) ≡ unexpired (m .copy)
             is =
                 slotAt-withSlot n r (unexpired (m .copy)) (copyBodyAt e u) d (length-copyBodyAt e u here) row
-                (unexpired-fit (m .copy) (subst (λ (x : Entry). SlotFit (x .copy)) (sym (link-stands u r ptr e m h)) (copy-fit e u b here)))
+                (unexpired-fit (m .copy) (subst (λ (x : Entry). SlotFit (x .copy)) (sym (link-real u r ptr e m h .stands)) (copy-fit e u b here)))
 
             by : (t : Bool) → Taken (withoutEntry n e u) behind
                 → (cond t (rest (ownMade n k) (behind .versions)) (copy ∷ behind .versions) ≡ [] → behind .whole ≡ true)

@@ -20,11 +20,12 @@ use Rattle.records.proofs.Bodies.{copyBodyAt-cut}
 use Rattle.chain.specs.declared.Link.{Link}
 use Rattle.chain.specs.declared.Link.the-variants.{End, Break, To}
 use Rattle.chain.specs.Chain.{Chain, onto, chainFrom, chainOf, linkOf}
+use Rattle.chain.proofs.Links.{link-real}
 use Rattle.chain.proofs.Chains.{copyOf}
 use Rattle.chain.proofs.Rows.{slotVersion, chainOf-used}
 use Rattle.touching.specs.Touching.{withSlot, withMeta}
 use Rattle.freeing.specs.Freeing.{withoutSlot, withoutEntry}
-use Rattle.strands.proofs.Strands.{withoutEntry-frees, link-inside, freed-step, versions-end, versions-break, versions-out}
+use Rattle.strands.proofs.Strands.{withoutEntry-frees, freed-step, versions-end, versions-break, versions-out}
 use Rattle.putback.specs.PutBack.{own, ownMade, unexpired, takenBack, undoneRow}
 
 -- ---- a slot's version, where m was read in the slot and b is what is_own answered of it
@@ -82,7 +83,7 @@ module _ {y : List ℕ} (n k r : ℕ) (d u : List ℕ) (left ptr : ℕ) where
     step =
         let k : left ≡ suc (left - 1) = omega arith in
         ap (λ (fuel : ℕ). chainFrom u r fuel [] ptr) k
-        ∙ freed-step r (left - 1) ptr u y e m to (rw freed (withoutEntry-frees n e u (link-inside u r ptr e m to)))
+        ∙ freed-step r (left - 1) ptr u y e m to (rw freed (withoutEntry-frees n e u (link-real u r ptr e m to .inside)))
 
     -- the rule from the next copy on is the rule from here on
     pub take-on : b ≡ true

@@ -12,9 +12,10 @@ use Rattle.records.specs.declared.entry.Entry.{Entry}
 use Rattle.chain.specs.declared.Link.{Link}
 use Rattle.chain.specs.declared.Link.the-variants.{End, Break, To}
 use Rattle.chain.specs.Chain.{among, chainFrom, linkOf}
+use Rattle.chain.proofs.Links.{link-real}
 use Rattle.chain.proofs.Enough.{Distinct, Below, more}
 use Rattle.strands.specs.Strands.{Frees}
-use Rattle.strands.proofs.Strands.{less, link-freed, link-inside, chainFrom-less}
+use Rattle.strands.proofs.Strands.{less, link-freed, chainFrom-less}
 
 -- u is v with the entries ps freed, as row r sees it; there are fuel more
 pub record Gone (r : ℕ) (v u ps : List ℕ) (fuel : ℕ) : Type 0 where
@@ -39,7 +40,7 @@ pub gone-freed : (r : ℕ) (v u u₁ ps : List ℕ) (fuel ptr e : ℕ) (m : Entr
     → Gone r v u₁ (e ∷ ps) fuel
 unfolding among
 gone-freed r v u u₁ ps fuel ptr e m g to f =
-    let here : e < entries u = link-inside u r ptr e m to in
+    let here : e < entries u = link-real u r ptr e m to .inside in
     record {
       size = f .size ∙ g .size;
       links = λ p. link-freed e u u₁ f r p ∙ ap (less (λ (q : ℕ). eqb q e)) (g .links p) ∙ also (linkOf v r p);

@@ -8,7 +8,7 @@ use native.Mathlib.Omega.{arith}
 use lib.ListN.{length}
 use lib.Dec.{eqb}
 use Rattle.kind.specs.Kind.{pages, entries}
-use Rattle.pointer.specs.Pointer.{leads, leadOf}
+use Rattle.pointer.specs.Pointer.{leadOf}
 use Rattle.records.specs.declared.slot.Slot.{Slot}
 use Rattle.records.specs.declared.entry.Entry.{Entry}
 use Rattle.records.specs.Slot.{slotAt}
@@ -26,7 +26,6 @@ use Rattle.chain.proofs.Chains.{chainFrom-end, chainFrom-break, chainFrom-passe
 use Rattle.chain.proofs.Rows.{chainOf-slot}
 use Rattle.strands.specs.Strands.{Frees, Keeps, entryIn, Step, Strand}
 use Rattle.strands.proofs.Apart.{frees-ofRow, cutCopy-ofRow, ofRow-refl, ofRow-trans, copies-refl, copies-trans, frees-copies, cutCopy-copies}
-use Rattle.strands.proofs.Strands.{link-inside, link-stands}
 
 -- ---- links, and what becomes of them
 
@@ -47,10 +46,10 @@ module _ {u : List ℕ} {r : ℕ} {ps : List ℕ} {ptr : ℕ} {x : Version} (s :
   step-place = ap (λ (y : Version). y .place) (s .is)
 
   pub step-inside : entryIn x < entries u
-  step-inside = link-inside u r ptr (entryIn x) (s .entry) (s .to)
+  step-inside = link-real u r ptr (entryIn x) (s .entry) (s .to) .inside
 
   pub step-entry : s .entry ≡ entryAt (entryIn x) u
-  step-entry = link-stands u r ptr (entryIn x) (s .entry) (s .to)
+  step-entry = link-real u r ptr (entryIn x) (s .entry) (s .to) .stands
 
   pub step-slot : x .slot ≡ entryAt (entryIn x) u .copy
   step-slot = ap (λ (y : Version). y .slot) (s .is) ∙ ap (λ (m : Entry). m .copy) step-entry

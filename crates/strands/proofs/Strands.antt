@@ -17,7 +17,7 @@ use Rattle.chain.specs.declared.Place.the-variants.{Undo}
 use Rattle.chain.specs.declared.Link.{Link}
 use Rattle.chain.specs.declared.Link.the-variants.{End, Break, To}
 use Rattle.chain.specs.Chain.{Chain, onto, among, unfit, chainFrom, linkAt, linkOf}
-use Rattle.chain.proofs.Links.{unfit-free, link-real}
+use Rattle.chain.proofs.Links.{unfit-free}
 use Rattle.chain.proofs.Chains.{copyOf, chainFrom-end, chainFrom-break, chainFrom-passed, chainFrom-on, chainFrom-full}
 use Rattle.freeing.specs.Freeing.{withoutEntry, sweptEntry}
 use Rattle.freeing.proofs.Freeings.{StoredEntry, length-stored, entryAt-stored-other, copyBodyAt-stored-other, withoutEntry-is, sweptEntry-is, writer-withoutEntry, writer-sweptEntry}
@@ -41,14 +41,6 @@ pub sweptEntry-frees : (e : ℕ) (u : List ℕ) → e < entries u → Frees e u 
 sweptEntry-frees e u here = frees-stored e u (sweptEntry e u) (sweptEntry-is e u) (writer-sweptEntry e u here)
 
 -- ---- links
-
--- what a pointer leads to is an entry of the area, and the one that stands there
-module _ (u : List ℕ) (r ptr e : ℕ) (m : Entry) (to : linkOf u r ptr ≡ To e m) where
-  pub link-inside : e < entries u
-  link-inside = link-real u r ptr e m to .inside
-
-  pub link-stands : m ≡ entryAt e u
-  link-stands = link-real u r ptr e m to .stands
 
 -- a link where the entries of g are gone
 abbrev pub less : (ℕ → Bool) → Link → Link

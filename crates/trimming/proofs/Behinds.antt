@@ -17,11 +17,12 @@ use Rattle.chain.specs.declared.Place.the-variants.{Data, Undo}
 use Rattle.chain.specs.declared.Link.{Link}
 use Rattle.chain.specs.declared.Link.the-variants.{To}
 use Rattle.chain.specs.Chain.{Version, Chain, onto, among, chainFrom, linkOf}
+use Rattle.chain.proofs.Links.{link-real}
 use Rattle.chain.proofs.Chains.{copyOf, chainFrom-passed, chainFrom-on}
 use Rattle.chain.proofs.Rows.{broken}
 use Rattle.strands.specs.Strands.{entryIn, Strand}
 use Rattle.strands.proofs.Runs.{chain-strand, chain-few, strand-chain}
-use Rattle.strands.proofs.Strands.{link-inside, versions-out}
+use Rattle.strands.proofs.Strands.{versions-out}
 use Rattle.trimming.specs.Trimming.{deadIn, inside, cutAt, sweptAll, sweptBehind, goneBehind}
 use Rattle.trimming.proofs.Rests.{versions-none}
 
@@ -137,7 +138,7 @@ module _ (mark : ℕ) (s d₀ u₀ : List ℕ) (r : ℕ) (m : Slot) where
             whole = sym (ap (λ (c : Chain). c .whole) goes-on) ∙ h .whole;
             gone = count (further .versions) split;
             swept = leave (further .versions) split;
-            within = link-inside u r (newer .«undo_ptr») e n to;
+            within = link-real u r (newer .«undo_ptr») e n to .inside;
           }
         where
           count : (xs : List Version) → here .versions ≡ copyOf e n ∷ xs → goneBehind mark s xs ≡ goneBehind mark s (older u₀ r m)

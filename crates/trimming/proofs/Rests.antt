@@ -11,10 +11,11 @@ use Rattle.records.specs.declared.entry.Entry.{Entry}
 use Rattle.chain.specs.declared.Link.{Link}
 use Rattle.chain.specs.declared.Link.the-variants.{End, Break, To}
 use Rattle.chain.specs.Chain.{Version, Chain, chainFrom, linkOf}
+use Rattle.chain.proofs.Links.{link-real}
 use Rattle.chain.proofs.Chains.{copyOf}
 use Rattle.freeing.specs.Freeing.{sweptEntry}
 use Rattle.strands.specs.Strands.{Frees}
-use Rattle.strands.proofs.Strands.{sweptEntry-frees, link-inside, freed-step, versions-end, versions-break, versions-out}
+use Rattle.strands.proofs.Strands.{sweptEntry-frees, freed-step, versions-end, versions-break, versions-out}
 use Rattle.trimming.specs.Trimming.{sweptAll}
 
 -- the versions of row r from a pointer on, of at most so many entries
@@ -52,7 +53,7 @@ module _ (u₀ : List ℕ) (r first most : ℕ) where
         let next : ℕ = m .copy .«undo_ptr» in
         let k : most - n ≡ suc (most - (n + 1)) = omega arith in
         let link : linkOf u r ptr ≡ To e m = sym is ∙ to in
-        let frees : Frees e u u′ = rw done (sweptEntry-frees e u (link-inside u r ptr e m link)) in
+        let frees : Frees e u u′ = rw done (sweptEntry-frees e u (link-real u r ptr e m link .inside)) in
         let step : onward u r (most - n) ptr ≡ copyOf e m ∷ onward u′ r (most - (n + 1)) next
         = ap (λ (j : ℕ). onward u r j ptr) k ∙ ap (λ (c : Chain). c .versions) (freed-step r (most - (n + 1)) ptr u u′ e m link frees) in
         record { leaves = swept step; counts = counted (onward u′ r (most - (n + 1)) next) (ap length step) }

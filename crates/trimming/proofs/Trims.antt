@@ -15,6 +15,7 @@ use Rattle.records.specs.declared.slot.Slot.{Slot}
 use Rattle.records.specs.declared.entry.Entry.{Entry}
 use Rattle.records.specs.Slot.{slotAt, bodyAt}
 use Rattle.records.proofs.Slots.{SlotFit}
+use Rattle.records.proofs.Fits.{fit-slot, slotAt-fit, copy-fit}
 use Rattle.chain.specs.declared.Place.{Place}
 use Rattle.chain.specs.declared.Place.the-variants.{Nowhere, Data, Undo}
 use Rattle.chain.specs.declared.Link.the-variants.{End}
@@ -26,7 +27,6 @@ use Rattle.freeing.proofs.Freeings.{slotAt-stored-other, bodyAt-stored-other, s
 use Rattle.strands.specs.Strands.{Frees, Keeps, Shaped, Treated, RowIn, entryIn, Step, Strand, front, having, onLast}
 use Rattle.strands.proofs.Strands.{sweptEntry-frees}
 use Rattle.strands.proofs.Apart.{chainOf-treated}
-use Rattle.records.proofs.Fits.{fit-slot, slotAt-fit, copy-fit}
 use Rattle.strands.proofs.Rows.{treated-refl}
 use Rattle.strands.proofs.Shapes.{shaped-refl, shaped-trans, shaped-sweptSlot, shaped-cutSlot, shaped-sweptEntry, shaped-cutCopy}
 use Rattle.strands.proofs.Runs.{step-place, step-inside, step-slot, step-kept, step-cut, strand-freed, keeps-refl, keeps-fewer, keeps-first, keeps-freed, keeps-cut, chain-strand, chain-few, chainOf-strand}

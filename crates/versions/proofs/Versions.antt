@@ -26,24 +26,23 @@ use Rattle.chain.specs.declared.Link.{Link}
 use Rattle.chain.specs.declared.Link.the-variants.{End, Break, To}
 use Rattle.chain.specs.Chain.{Chain, ended, onto, among, unfit, chainFrom, chainOf, linkAt, linkOf}
 use Rattle.chain.proofs.Links.{unfit-free, unfit-other, carries-unfit, Real, link-real}
-use Rattle.chain.proofs.Rows.{broken, chainOf-used, chainOf-slot, chainOf-agree}
 use Rattle.chain.proofs.Chains.{copyOf, chainFrom-end, chainFrom-break, chainFrom-passed, chainFrom-on, chainFrom-full}
 use Rattle.chain.proofs.Enough.{more}
+use Rattle.chain.proofs.Rows.{broken, chainOf-used, chainOf-slot, chainOf-agree}
 use Rattle.touching.proofs.Touchings.{WrittenEntry, length-written, slotAt-written-other, entryAt-written-other, withSlot-written, slotAt-withSlot, withMeta-written, slotAt-withMeta, withEntry-written, entryAt-withEntry}
 use Rattle.writing.specs.Writing.{made, expired, kept, inserted, updatedUndo, updatedData, deleted}
 use Rattle.versions.specs.Versions.{older, AllWhole, Fits, Takes}
 
 -- the chain of an occupied row: its slot, and what is older
-module _ (d u : List ℕ) (r : ℕ) (m : Slot) (is : slotAt r d ≡ m) (used : m .create ≡ 0 → ⊥) where
-  older-used : older (chainOf d u r) ≡ chainFrom u r (entries u) [] (m .«undo_ptr»)
-  older-used = ap older (chainOf-slot d u r m is used)
+older-used : (d u : List ℕ) (r : ℕ) → (slotAt r d .create ≡ 0 → ⊥) → older (chainOf d u r) ≡ chainFrom u r (entries u) [] (slotAt r d .«undo_ptr»)
+older-used d u r used = ap older (chainOf-used d u r used)
 
 -- so its first version is its slot
 pub chainOf-first : (d u : List ℕ) (r : ℕ) → (slotAt r d .create ≡ 0 → ⊥)
     → chainOf d u r ≡ onto (record { place = Data r; slot = slotAt r d }) (older (chainOf d u r))
 chainOf-first d u r used =
     chainOf-used d u r used
-    ∙ ap (onto (record { place = Data r; slot = slotAt r d })) (sym (older-used d u r (slotAt r d) refl used))
+    ∙ ap (onto (record { place = Data r; slot = slotAt r d })) (sym (older-used d u r used))
 
 -- ---- what is written fits its fields
 
@@ -115,7 +114,7 @@ module _ (n c r : ℕ) (d u : List ℕ) where
         chainOf-slot (deleted n c r d) u r (expired n c (slotAt r d))
         (slotAt-withMeta n r (expired n c (slotAt r d)) d (f .row) (expired-fit f))
         used
-        ∙ ap (onto (record { place = Data r; slot = expired n c (slotAt r d) })) (sym (older-used d u r (slotAt r d) refl used))
+        ∙ ap (onto (record { place = Data r; slot = expired n c (slotAt r d) })) (sym (older-used d u r used))
 
     pub whole-deleted : AllWhole d u → AllWhole (deleted n c r d) u
     unfolding deleted
@@ -277,7 +276,7 @@ module _ (n c r e : ℕ) (body d u : List ℕ) (f : Fits n c r d) (g : Takes r e
       unfolding among
       behind-copy =
           let ptr : ℕ = slotAt r d .«undo_ptr» in
-          let was : older (chainOf d u r) ≡ chainFrom u r (entries u) [] ptr = older-used d u r (slotAt r d) refl used in
+          let was : older (chainOf d u r) ≡ chainFrom u r (entries u) [] ptr = older-used d u r used in
           let all : entries u - 1 + 1 ≡ entries u = omega (arith, g .here) in
           sym (more undo' r 1 (entries u - 1) (e ∷ []) ptr (refl, tt) (omega (arith, g .here, entries-same), tt) (omega (arith, entries-same)))
           ∙ ap (λ (x : ℕ). chainFrom undo' r x (e ∷ []) ptr) all

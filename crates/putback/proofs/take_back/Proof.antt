@@ -14,7 +14,7 @@ use Rattle.kind.specs.Areas.{both}
 use Rattle.chain.specs.declared.Link.the-variants.{To}
 use Rattle.chain.specs.Chain.{chainFrom, linkOf}
 use Rattle.chain.proofs.Link.{enum}
-use Rattle.strands.proofs.Strands.{link-inside}
+use Rattle.chain.proofs.Links.{link-real}
 use Rattle.putback.specs.PutBack.{takenBack}
 use Rattle.putback.proofs.PutBacks.{take-on, take-put, take-out, take-end}
 use Rattle.putback.proofs.take_back.Statement.{statement}
@@ -46,7 +46,7 @@ module _ (c : tie.After-l Inv-loop μ-loop) where
   head-more = omega (arith, c .before .before .before .before .loop-test .taken)
 
   inside : c .l .given .0 .0 < entries (head .loop .undo)
-  inside = link-inside _ _ _ _ _ led
+  inside = link-real _ _ _ _ _ led .inside
 
 mul-left : tie.Need-mul-left Inv-loop μ-loop
 mul-left c = search needs

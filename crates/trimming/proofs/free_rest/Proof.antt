@@ -7,7 +7,7 @@ use Prim.Native.Nat.{_≤_, _-_}
 use native.Mathlib.Omega.{arith}
 use lib.ListN.{length}
 use Rattle.chain.proofs.Link.{enum}
-use Rattle.strands.proofs.Strands.{link-inside}
+use Rattle.chain.proofs.Links.{link-real}
 use Rattle.trimming.proofs.Rests.{Freed, freed-start, freed-next, freed-end, freed-out}
 use Rattle.trimming.proofs.free_rest.Statement.{statement}
 use Rattle.trimming.proofs.free_rest.Tie as tie
@@ -33,7 +33,7 @@ enum-known-l c = search needs
 sweep-entry-requires : tie.Need-sweep-entry-requires Inv-loop μ-loop
 sweep-entry-requires c κs =
     let l = c .before .before in
-    link-inside _ _ _ _ _ (sym (l .before .before .follow .ensures) ∙ l .l .given .1)
+    link-real _ _ _ _ _ (sym (l .before .before .follow .ensures) ∙ l .l .given .1) .inside
 
 add-n : tie.Need-add-n Inv-loop μ-loop
 add-n c = search needs
