@@ -1,0 +1,167 @@
+// Feeds a script from one open file to the store, and its answers to another, as they come ("01, The script and one whole run"). It holds no
+// rule: which call a line is, what it does and what it answers is `script`'s.
+use script::Station;
+ghost use Prim.Native.Nat.{_≤_};
+ghost use lib.ListN.{length};
+
+// What is carried from one reading to the next: the station, how much text that was not taken stands at the front of the buffer, and
+// whether to go on.
+struct Fed {
+    station: Station,
+    kept: usize,
+    more: bool,
+}
+
+// What a reading gave: whether it could be had, where the text ends now, and whether no more comes.
+struct Filled {
+    good: bool,
+    end: usize,
+    last: bool,
+}
+
+// Moves what was not taken to the front.
+fn keep_rest(text: &mut [u8], from: usize, to: usize)
+    requires { ⌜ (from ≤ to) × (to ≤ length (now text)) ⌝ }
+{
+    let mut i = from;
+    while i < to {
+        text[i - from] = text[i];
+        i += 1;
+    }
+}
+
+// Answers every line of a text that is whole, and writes each answer. What comes back as kept was not taken.
+fn answer(
+    data: &mut [u8],
+    undo: &mut [u8],
+    status: &mut [u8],
+    station: Station,
+    text: &[u8],
+    last: bool,
+    out: &mut [u8],
+    output: i32,
+) -> Fed
+    ensures { λ r. ⌜ r .kept ≤ length (now (text .entry)) ⌝ }
+{
+    let mut s = station;
+    let mut at = 0;
+    while at <= text.len() {
+        let r = script::run(data, undo, status, s, &text[at..], last, out);
+        s = r.station;
+        let made = r.made;
+        let taken = r.taken;
+        if !io::write_all(output, &out[..made]) {
+            os::fail(b"chirimok: the answers");
+            return Fed {
+                station: s,
+                kept: 0,
+                more: false,
+            };
+        }
+        if taken == 0 {
+            return Fed {
+                station: s,
+                kept: text.len() - at,
+                more: !last,
+            };
+        }
+        at += taken;
+    }
+    Fed {
+        station: s,
+        kept: 0,
+        more: !last,
+    }
+}
+
+// Reads once, behind what was kept, and answers how much text there is then, and whether that was all.
+fn fill(text: &mut [u8], kept: usize, input: i32) -> Filled
+    requires { ⌜ kept ≤ length (now text) ⌝ }
+    ensures { λ r. ⌜ r .end ≤ length (now (text .entry)) ⌝ }
+{
+    let got = libc::read(input, &mut text[kept..]);
+    if got < 0 {
+        os::fail(b"chirimok: the script");
+        return Filled {
+            good: false,
+            end: kept,
+            last: true,
+        };
+    }
+    let n = io::count(got, &text[kept..]);
+    Filled {
+        good: true,
+        end: kept + n,
+        last: n == 0,
+    }
+}
+
+// Reads once, and answers what is there.
+fn turn(
+    data: &mut [u8],
+    undo: &mut [u8],
+    status: &mut [u8],
+    station: Station,
+    text: &mut [u8],
+    kept: usize,
+    out: &mut [u8],
+    input: i32,
+    output: i32,
+) -> Fed
+    requires { ⌜ kept ≤ length (now text) ⌝ }
+    ensures { λ r. ⌜ r .kept ≤ length (now (text .entry)) ⌝ }
+{
+    let filled = fill(text, kept, input);
+    if !filled.good {
+        return Fed {
+            station,
+            kept,
+            more: false,
+        };
+    }
+    let end = filled.end;
+    let f = answer(
+        data,
+        undo,
+        status,
+        station,
+        &text[..end],
+        filled.last,
+        out,
+        output,
+    );
+    keep_rest(text, end - f.kept, end);
+    f
+}
+
+// Runs the script of `input` to its end. A person at a terminal has the answer to each line before the next is read. A proved loop has to
+// end, and nothing says that an input does: so it counts its readings down, from a number that no run uses up.
+pub fn feed(input: i32, output: i32) {
+    let mut data = [0u8; 24576];
+    let mut undo = [0u8; 24576];
+    let mut status = [0u8; 8192];
+    let mut text = io::large_buffer();
+    let mut out = io::large_buffer();
+    let mut s = Station::fresh();
+    let mut kept = 0;
+    let mut left = u64::MAX;
+    while left > 0 {
+        let f = turn(
+            &mut data,
+            &mut undo,
+            &mut status,
+            s,
+            &mut text,
+            kept,
+            &mut out,
+            input,
+            output,
+        );
+        if !f.more {
+            return;
+        }
+        s = f.station;
+        kept = f.kept;
+        left -= 1;
+    }
+}

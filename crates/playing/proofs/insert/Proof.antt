@@ -1,0 +1,36 @@
+-- `playing::insert` meets its contract: the call and its line. Assumes nothing.
+use Prim.Native.Nat.{ℕ}
+use mathlib.Core.Path.{refl, ap, _∙_}
+use mathlib.Core.List.{List}
+use Rattle.kind.specs.Areas.{areas}
+use Rattle.playing.specs.Playing.{number, insertTurn}
+use Rattle.playing.proofs.Playings.{plays}
+use borrow.Author.Needs.{needs}
+use Rattle.playing.proofs.insert.Statement.{statement}
+use Rattle.playing.proofs.insert.Tie as tie
+
+insert-requires : tie.Need-insert-requires
+insert-requires c κs = search needs
+
+code-requires : tie.Need-code-requires
+code-requires c κs = search needs
+
+numbered-requires : tie.Need-numbered-requires
+numbered-requires c κs = search needs
+
+same-length : tie.Need-same-length
+same-length c = search needs
+
+same-length-2 : tie.Need-same-length-2
+same-length-2 c = search needs
+
+returns : tie.Need-returns
+unfolding insertTurn
+returns c =
+    let done = c .before .before .before .before .before .before .before .insert .ensures in
+    plays _ _ _ _ _ _ _ (c .before .before .before .before .code .ensures ∙ (ap (λ (y : ℕ × ℕ). y .0) (done .answers))) (ap (λ (y : ℕ × ℕ). number (y .1)) (done .answers)) refl (ap (λ (d : List ℕ). areas d (c .before .before .before .before .before .before .before .before .before .before .before .before .before .before .args .undo .now) (c .before .before .before .before .before .before .before .before .before .before .before .before .before .before .args .status .now)) (done .leaves)) (c .before .before .numbered .ensures)
+
+pub insert-spec : {M : Type 1} → statement M
+insert-spec =
+    tie.close
+    (tie.spec insert-requires code-requires numbered-requires same-length same-length-2 returns)

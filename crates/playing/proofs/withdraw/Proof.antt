@@ -1,0 +1,49 @@
+-- `playing::withdraw` meets its contract: the call and its line. Assumes nothing.
+use Prim.Native.Nat.{ℕ}
+use mathlib.Core.Path.{refl, ap, _∙_}
+use Rattle.desk.specs.declared.Desk.{Desk}
+use Rattle.playing.specs.Playing.{withdrawTurn}
+use Rattle.playing.proofs.Playings.{plays}
+use borrow.Author.Needs.{needs}
+use Rattle.playing.proofs.withdraw.Statement.{statement}
+use Rattle.playing.proofs.withdraw.Tie as tie
+
+withdraw-requires : tie.Need-withdraw-requires
+withdraw-requires c κs = search needs
+
+code-requires : tie.Need-code-requires
+code-requires c κs = search needs
+
+plain-requires : tie.Need-plain-requires
+plain-requires c κs = search needs
+
+same-length : tie.Need-same-length
+same-length c = search needs
+
+same-length-2 : tie.Need-same-length-2
+same-length-2 c = search needs
+
+same-length-3 : tie.Need-same-length-3
+same-length-3 c = search needs
+
+same-length-4 : tie.Need-same-length-4
+same-length-4 c = search needs
+
+returns : tie.Need-returns
+unfolding withdrawTurn
+returns c =
+    let done = c .before .before .before .before .before .before .before .before .before .before .before .before .withdraw .ensures in
+    plays _ _ _ _ _ _ _ (c .before .before .before .before .code .ensures ∙ (ap (λ (y : ℕ × Desk). y .0) (done .answers))) refl (ap (λ (y : ℕ × Desk). y .1) (done .answers)) (done .leaves) (c .before .before .plain .ensures)
+
+pub withdraw-spec : {M : Type 1} → statement M
+withdraw-spec =
+    tie.close
+    (tie.spec
+    withdraw-requires
+    code-requires
+    plain-requires
+    same-length
+    same-length-2
+    same-length-3
+    same-length-4
+    returns)

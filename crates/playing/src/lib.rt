@@ -1,0 +1,313 @@
+// One call of a script, played on a store, and its answer written as a line ("01, The script and one whole run"). Nothing is decided
+// here: each call is handed to its own function, and what that answers is said.
+use desk::Desk;
+use line::Call;
+use line::Verb;
+ghost use mathlib.Core.Path.{_≡_};
+ghost use mathlib.Core.List.{[]};
+ghost use Prim.Native.Nat.{_+_, _≤_};
+ghost use lib.ListN.{length};
+ghost use Rattle.kind.specs.Areas.{areas};
+ghost use Rattle.reply.specs.Reply.{longest, Says, answerLine};
+ghost use Rattle.playing.specs.Playing.{Plays, playRule, formatTurn, openTurn, sealTurn, beginTurn, nextTurn, insertTurn, updateTurn, deleteTurn, readTurn, commitTurn, withdrawTurn, sweepTurn};
+
+// What a played call leaves beside the areas: the code, the desk, and where its line ends.
+pub struct Played {
+    pub code: u32,
+    pub desk: Desk,
+    pub end: usize,
+}
+
+// "An ill-formed, too long or unended line, or a number above 2^64 − 1, answers one 16"
+pub const ILL_FORMED: u32 = 16;
+
+// Formats what is lent; a refusal leaves the desk as it was.
+fn format(
+    data: &mut [u8],
+    undo: &mut [u8],
+    status: &mut [u8],
+    desk: Desk,
+    out: &mut [u8],
+    at: usize,
+) -> Played
+    requires { ⌜ at + longest ≤ length (now out) ⌝ }
+    ensures { λ r. ⌜ Plays (formatTurn (areas (now («data» .entry)) (now (undo .entry)) (now (status .entry))) desk) at (now (out .entry)) r (areas (now («data» .exit)) (now (undo .exit)) (now (status .exit))) (now (out .exit)) ⌝ }
+{
+    let o = keep::format(data, undo, status);
+    let a = o.answer;
+    let new = o.desk;
+    let code = answer::code(a);
+    let end = reply::plain(out, at, code);
+    if code == 0 {
+        Played {
+            code,
+            desk: new,
+            end,
+        }
+    } else {
+        Played { code, desk, end }
+    }
+}
+
+fn open(data: &[u8], undo: &[u8], status: &[u8], desk: Desk, out: &mut [u8], at: usize) -> Played
+    requires { ⌜ at + longest ≤ length (now out) ⌝ }
+    ensures { λ r. ⌜ Plays (openTurn (areas (now («data» .entry)) (now (undo .entry)) (now (status .entry))) desk) at (now (out .entry)) r (areas (now («data» .entry)) (now (undo .entry)) (now (status .entry))) (now (out .exit)) ⌝ }
+{
+    let o = keep::open(data, undo, status);
+    let a = o.answer;
+    let new = o.desk;
+    let code = answer::code(a);
+    let end = reply::plain(out, at, code);
+    if code == 0 {
+        Played {
+            code,
+            desk: new,
+            end,
+        }
+    } else {
+        Played { code, desk, end }
+    }
+}
+
+fn seal(
+    data: &mut [u8],
+    undo: &mut [u8],
+    status: &mut [u8],
+    desk: Desk,
+    out: &mut [u8],
+    at: usize,
+) -> Played
+    requires { ⌜ at + longest ≤ length (now out) ⌝ }
+    ensures { λ r. ⌜ Plays (sealTurn (areas (now («data» .entry)) (now (undo .entry)) (now (status .entry))) desk) at (now (out .entry)) r (areas (now («data» .exit)) (now (undo .exit)) (now (status .exit))) (now (out .exit)) ⌝ }
+{
+    let a = keep::seal(data, undo, status, desk);
+    let code = answer::code(a);
+    let end = reply::plain(out, at, code);
+    Played { code, desk, end }
+}
+
+fn begin(
+    data: &[u8],
+    undo: &[u8],
+    status: &mut [u8],
+    desk: Desk,
+    out: &mut [u8],
+    at: usize,
+) -> Played
+    requires { ⌜ at + longest ≤ length (now out) ⌝ }
+    ensures { λ r. ⌜ Plays (beginTurn (areas (now («data» .entry)) (now (undo .entry)) (now (status .entry))) desk) at (now (out .entry)) r (areas (now («data» .entry)) (now (undo .entry)) (now (status .exit))) (now (out .exit)) ⌝ }
+{
+    let b = turns::begin(data, undo, status, desk);
+    let a = b.answer;
+    let desk = b.desk;
+    let code = answer::code(a);
+    let end = reply::numbered(out, at, code, b.number);
+    Played { code, desk, end }
+}
+
+fn next(
+    data: &[u8],
+    undo: &[u8],
+    status: &[u8],
+    desk: Desk,
+    session: u64,
+    out: &mut [u8],
+    at: usize,
+) -> Played
+    requires { ⌜ at + longest ≤ length (now out) ⌝ }
+    ensures { λ r. ⌜ Plays (nextTurn (areas (now («data» .entry)) (now (undo .entry)) (now (status .entry))) desk session) at (now (out .entry)) r (areas (now («data» .entry)) (now (undo .entry)) (now (status .entry))) (now (out .exit)) ⌝ }
+{
+    let m = turns::next(data, undo, status, desk, session);
+    let a = m.answer;
+    let desk = m.desk;
+    let code = answer::code(a);
+    let end = reply::plain(out, at, code);
+    Played { code, desk, end }
+}
+
+fn insert(
+    data: &mut [u8],
+    undo: &[u8],
+    status: &[u8],
+    desk: Desk,
+    session: u64,
+    body: &[u8],
+    out: &mut [u8],
+    at: usize,
+) -> Played
+    requires { ⌜ at + longest ≤ length (now out) ⌝ }
+    ensures { λ r. ⌜ Plays (insertTurn (areas (now («data» .entry)) (now (undo .entry)) (now (status .entry))) desk session (now (body .entry))) at (now (out .entry)) r (areas (now («data» .exit)) (now (undo .entry)) (now (status .entry))) (now (out .exit)) ⌝ }
+{
+    let i = rows::insert(data, undo, status, desk, session, body);
+    let a = i.answer;
+    let code = answer::code(a);
+    let end = reply::numbered(out, at, code, i.row as u64);
+    Played { code, desk, end }
+}
+
+fn update(
+    data: &mut [u8],
+    undo: &mut [u8],
+    status: &[u8],
+    desk: Desk,
+    session: u64,
+    row: usize,
+    body: &[u8],
+    out: &mut [u8],
+    at: usize,
+) -> Played
+    requires { ⌜ at + longest ≤ length (now out) ⌝ }
+    ensures { λ r. ⌜ Plays (updateTurn (areas (now («data» .entry)) (now (undo .entry)) (now (status .entry))) desk session row (now (body .entry))) at (now (out .entry)) r (areas (now («data» .exit)) (now (undo .exit)) (now (status .entry))) (now (out .exit)) ⌝ }
+{
+    let a = rows::update(data, undo, status, desk, session, row, body);
+    let code = answer::code(a);
+    let end = reply::plain(out, at, code);
+    Played { code, desk, end }
+}
+
+fn delete<'a>(
+    data: &mut [u8],
+    undo: &'a [u8],
+    status: &'a [u8],
+    desk: Desk,
+    session: u64,
+    row: usize,
+    out: &mut [u8],
+    at: usize,
+) -> Played
+    requires { ⌜ at + longest ≤ length (now out) ⌝ }
+    ensures { λ r. ⌜ Plays (deleteTurn (areas (now («data» .entry)) (now (undo .entry)) (now (status .entry))) desk session row) at (now (out .entry)) r (areas (now («data» .exit)) (now (undo .entry)) (now (status .entry))) (now (out .exit)) ⌝ }
+{
+    let a = rows::delete(data, undo, status, desk, session, row);
+    let code = answer::code(a);
+    let end = reply::plain(out, at, code);
+    Played { code, desk, end }
+}
+
+fn read<'a>(
+    data: &'a [u8],
+    undo: &'a [u8],
+    status: &'a [u8],
+    desk: Desk,
+    session: u64,
+    row: usize,
+    out: &mut [u8],
+    at: usize,
+) -> Played
+    requires { ⌜ at + longest ≤ length (now out) ⌝ }
+    ensures { λ r. ⌜ Plays (readTurn (areas (now («data» .entry)) (now (undo .entry)) (now (status .entry))) desk session row) at (now (out .entry)) r (areas (now («data» .entry)) (now (undo .entry)) (now (status .entry))) (now (out .exit)) ⌝ }
+{
+    let r = rows::read(data, undo, status, desk, session, row);
+    let a = r.answer;
+    let place = r.place;
+    let code = answer::code(a);
+    let body = chain::body(data, undo, place);
+    let end = reply::bodied(out, at, code, r.looked as u64, body);
+    Played { code, desk, end }
+}
+
+fn commit(
+    data: &[u8],
+    undo: &[u8],
+    status: &mut [u8],
+    desk: Desk,
+    session: u64,
+    out: &mut [u8],
+    at: usize,
+) -> Played
+    requires { ⌜ at + longest ≤ length (now out) ⌝ }
+    ensures { λ r. ⌜ Plays (commitTurn (areas (now («data» .entry)) (now (undo .entry)) (now (status .entry))) desk session) at (now (out .entry)) r (areas (now («data» .entry)) (now (undo .entry)) (now (status .exit))) (now (out .exit)) ⌝ }
+{
+    let m = turns::commit(data, undo, status, desk, session);
+    let a = m.answer;
+    let desk = m.desk;
+    let code = answer::code(a);
+    let end = reply::plain(out, at, code);
+    Played { code, desk, end }
+}
+
+fn withdraw(
+    data: &mut [u8],
+    undo: &mut [u8],
+    status: &mut [u8],
+    desk: Desk,
+    session: u64,
+    out: &mut [u8],
+    at: usize,
+) -> Played
+    requires { ⌜ at + longest ≤ length (now out) ⌝ }
+    ensures { λ r. ⌜ Plays (withdrawTurn (areas (now («data» .entry)) (now (undo .entry)) (now (status .entry))) desk session) at (now (out .entry)) r (areas (now («data» .exit)) (now (undo .exit)) (now (status .exit))) (now (out .exit)) ⌝ }
+{
+    let w = undoing::withdraw(data, undo, status, desk, session);
+    let a = w.answer;
+    let desk = w.desk;
+    let code = answer::code(a);
+    let end = reply::plain(out, at, code);
+    Played { code, desk, end }
+}
+
+fn sweep(
+    data: &mut [u8],
+    undo: &mut [u8],
+    status: &[u8],
+    desk: Desk,
+    first: usize,
+    quota: usize,
+    out: &mut [u8],
+    at: usize,
+) -> Played
+    requires { ⌜ at + longest ≤ length (now out) ⌝ }
+    ensures { λ r. ⌜ Plays (sweepTurn (areas (now («data» .entry)) (now (undo .entry)) (now (status .entry))) desk first quota) at (now (out .entry)) r (areas (now («data» .exit)) (now (undo .exit)) (now (status .entry))) (now (out .exit)) ⌝ }
+{
+    let s = sweeping::sweep(data, undo, status, desk, first, quota);
+    let a = s.answer;
+    let code = answer::code(a);
+    let end = reply::paired(out, at, code, s.next as u64, s.removed as u64);
+    Played { code, desk, end }
+}
+
+fn ill_formed(desk: Desk, out: &mut [u8], at: usize) -> Played
+    requires { ⌜ at + longest ≤ length (now out) ⌝ }
+    ensures { λ r. ⌜ (r .code ≡ 16) × (r .desk ≡ desk) × Says (answerLine (r .code) []) at (now (out .entry)) (r .end) (now (out .exit)) ⌝ }
+{
+    let end = reply::plain(out, at, ILL_FORMED);
+    Played {
+        code: ILL_FORMED,
+        desk,
+        end,
+    }
+}
+
+// Plays a call, by its name.
+pub fn play(
+    data: &mut [u8],
+    undo: &mut [u8],
+    status: &mut [u8],
+    desk: Desk,
+    call: Call,
+    out: &mut [u8],
+    at: usize,
+) -> Played
+    requires { ⌜ at + longest ≤ length (now out) ⌝ }
+    ensures { λ r. ⌜ Plays (playRule (areas (now («data» .entry)) (now (undo .entry)) (now (status .entry))) desk call) at (now (out .entry)) r (areas (now («data» .exit)) (now (undo .exit)) (now (status .exit))) (now (out .exit)) ⌝ }
+{
+    let verb = call.verb;
+    let x = call.first;
+    let row = call.second as usize;
+    let body = call.body;
+    match verb {
+        Verb::Format => format(data, undo, status, desk, out, at),
+        Verb::Open => open(data, undo, status, desk, out, at),
+        Verb::Seal => seal(data, undo, status, desk, out, at),
+        Verb::Begin => begin(data, undo, status, desk, out, at),
+        Verb::Next => next(data, undo, status, desk, x, out, at),
+        Verb::Insert => insert(data, undo, status, desk, x, &body, out, at),
+        Verb::Update => update(data, undo, status, desk, x, row, &body, out, at),
+        Verb::Delete => delete(data, undo, status, desk, x, row, out, at),
+        Verb::Read => read(data, undo, status, desk, x, row, out, at),
+        Verb::Commit => commit(data, undo, status, desk, x, out, at),
+        Verb::Withdraw => withdraw(data, undo, status, desk, x, out, at),
+        Verb::Sweep => sweep(data, undo, status, desk, x as usize, row, out, at),
+        Verb::IllFormed => ill_formed(desk, out, at),
+    }
+}

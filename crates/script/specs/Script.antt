@@ -1,0 +1,177 @@
+-- A script run on lent areas ("01, The script and one whole run"): the whole output of a text, and what one piece of it does. Assumes
+-- nothing.
+use Prim.Native.Nat.{ℕ, _+_, _*_, _≤_}
+use mathlib.Core.Path.{_≡_}
+use mathlib.Core.Bool.{Bool, true, false, not, _&&_, cond}
+use mathlib.Core.List.{List, [], _∷_, _++_}
+use lib.ListN.{length, take, drop}
+use lib.Seq.{sets}
+use lib.Dec.{eqb, leb, ltb}
+use Rattle.kind.specs.Kind.{pageSize}
+use Rattle.kind.specs.Areas.{Areas, areas}
+use Rattle.desk.specs.Desk.{noDesk}
+use Rattle.span.specs.Span.{parts}
+use Rattle.line.specs.declared.Verb.{Verb}
+use Rattle.line.specs.declared.Verb.the-variants.{Format, Open, Seal, Begin, Next, Insert, Update, Delete, Read, Commit, Withdraw, Sweep, IllFormed}
+use Rattle.line.specs.declared.Call.{Call}
+use Rattle.line.specs.Line.{callOf, ill, longest as longestLine}
+use Rattle.reply.specs.Reply.{answerLine, longest as longestAnswer}
+use Rattle.playing.specs.Playing.{Turn, playRule, lineOf}
+use Rattle.script.specs.declared.Station.{Station}
+use Rattle.script.specs.declared.Stepped.{Stepped}
+use Rattle.script.specs.declared.Ran.{Ran}
+
+-- ---- one call
+
+-- "A format line names the data, then the undo pages lent: at most 3 of each": so many bytes, none where it names more
+unfoldable pub named : ℕ → ℕ
+named pages = cond (leb pages 3) (pages * pageSize) 0
+
+-- of an area that is lent in full; none where it is shorter
+unfoldable pub lent : ℕ → List ℕ → ℕ
+lent n s = cond (leb n (length s)) n 0
+
+abbrev pub isFormat : Verb → Bool
+isFormat Format = true
+isFormat Open = false
+isFormat Seal = false
+isFormat Begin = false
+isFormat Next = false
+isFormat Insert = false
+isFormat Update = false
+isFormat Delete = false
+isFormat Read = false
+isFormat Commit = false
+isFormat Withdraw = false
+isFormat Sweep = false
+isFormat IllFormed = false
+
+-- a format is lent what its line names, any other call what the last accepted format named; before one that is nothing, and nothing is
+-- no store: "Before an accepted format every well-formed call but format answers 1"
+unfoldable pub dataLent : Call → Station → List ℕ → ℕ
+dataLent c s d = lent (cond (isFormat (c .verb)) (named (c .first)) (s .«data»)) d
+
+unfoldable pub undoLent : Call → Station → List ℕ → ℕ
+undoLent c s u = lent (cond (isFormat (c .verb)) (named (c .second)) (s .undo)) u
+
+-- what is carried from one line to the next
+pub record Carried : Type 0 where
+  pub station : Station
+  pub lent : Areas
+
+abbrev pub carried : Station → Areas → Carried
+carried s a = record { station = s; lent = a }
+
+abbrev pub station : Turn → Bool → ℕ → ℕ → Station → Station
+station t formats n m s =
+    record { desk = t .desk; «data» = cond (formats && eqb (t .code) 0) n (s .«data»); undo = cond (formats && eqb (t .code) 0) m (s .undo); long = false }
+
+-- the call on what it is lent
+unfoldable pub turnIn : Carried → Call → Turn
+turnIn k c =
+    playRule
+    (areas (take (dataLent c (k .station) (k .lent .«data»)) (k .lent .«data»)) (take (undoLent c (k .station) (k .lent .undo)) (k .lent .undo)) (k .lent .status))
+    (k .station .desk)
+    c
+
+-- and what is carried on: what was not lent is as it was
+unfoldable pub stepped : Carried → Call → Carried
+stepped k c =
+    let n = dataLent c (k .station) (k .lent .«data») in
+    let m = undoLent c (k .station) (k .lent .undo) in
+    let t = turnIn k c in
+    carried
+    (station t (isFormat (c .verb)) n m (k .station))
+    (areas (t .left .«data» ++ drop n (k .lent .«data»)) (t .left .undo ++ drop m (k .lent .undo)) (t .left .status))
+
+-- what a step leaves is that: what is carried on, and its line at a place of the buffer, inside it
+pub record Steps (k : Carried) (c : Call) (at : ℕ) (buffer : List ℕ) (r : Stepped) (left : Areas) (behind : List ℕ) : Type 0 where
+  pub carries : carried (r .station) left ≡ stepped k c
+  pub ends : r .end ≡ at + length (lineOf (turnIn k c))
+  pub writes : behind ≡ sets buffer at (lineOf (turnIn k c))
+  pub within : r .end ≤ length buffer
+
+-- ---- one line
+
+-- the call of a line; none where it has been found too long
+abbrev pub callIn : Carried → List ℕ → Call
+callIn k line = cond (k .station .long) ill (callOf line)
+
+-- "answers one 16"
+abbrev pub sixteen : List ℕ
+sixteen = answerLine 16 []
+
+-- ---- a whole text
+
+-- The whole output, line by line. What stands behind the last newline is an unended line, unless it is empty.
+unfoldable pub answers : Carried → List (List ℕ) → List ℕ
+answers k [] = []
+answers k (l ∷ []) = cond (eqb (length l) 0 && not (k .station .long)) [] sixteen
+answers k (l ∷ m ∷ ls) = lineOf (turnIn k (callIn k l)) ++ answers (stepped k (callIn k l)) (m ∷ ls)
+
+-- "newline after each line"
+abbrev pub output : Carried → List ℕ → List ℕ
+output k text = answers k (parts 10 text)
+
+-- ---- a piece of it
+
+-- how far a run came: what it said, how much of the text it is done with, what it carries on
+pub record Run : Type 0 where
+  pub said : List ℕ
+  pub taken : ℕ
+  pub on : Carried
+
+abbrev pub ran : List ℕ → ℕ → Carried → Run
+ran said n k = record { said = said; taken = n; on = k }
+
+-- the same, in a line that is too long or not
+abbrev pub inLine : Bool → Station → Station
+inLine b s = record { desk = s .desk; «data» = s .«data»; undo = s .undo; long = b }
+
+-- one line more
+unfoldable pub lined : Run → List ℕ → Run
+lined r l = ran (r .said ++ lineOf (turnIn (r .on) (callIn (r .on) l))) (r .taken + length l + 1) (stepped (r .on) (callIn (r .on) l))
+
+-- what stands behind the last newline, so many bytes: where no more text comes it is an unended line, unless there is none of it; where it is
+-- too long already it is done with, and its line is known to be too long; else it waits for more. What is said, taken and carried on:
+unfoldable pub restOf : Bool → Station → ℕ → List ℕ × ℕ × Station
+restOf last s n =
+    cond last
+    (cond (eqb n 0 && not (s .long)) ([], 0, s) (sixteen, n, inLine false s))
+    (cond (leb n longestLine) ([], 0, s) ([], n, inLine true s))
+
+unfoldable pub rested : Bool → Run → List ℕ → Run
+rested last r l =
+    let w = restOf last (r .on .station) (length l) in
+    ran (r .said ++ w .0) (r .taken + w .1) (carried (w .2) (r .on .lent))
+
+-- what the end of a text leaves is that
+pub record Rests (s : Station) (at n : ℕ) (last : Bool) (made : ℕ) (buffer : List ℕ) (r : Ran) (behind : List ℕ) : Type 0 where
+  pub takes : r .taken ≡ at + restOf last s n .1
+  pub makes : r .made ≡ made + length (restOf last s n .0)
+  pub carries : r .station ≡ restOf last s n .2
+  pub writes : behind ≡ sets buffer made (restOf last s n .0)
+
+-- no room for one more answer
+abbrev pub full : ℕ → Run → Bool
+full room r = ltb room (length (r .said) + longestAnswer)
+
+unfoldable pub runLines : ℕ → Bool → Run → List (List ℕ) → Run
+runLines room last r [] = r
+runLines room last r (l ∷ []) = cond (full room r) r (rested last r l)
+runLines room last r (l ∷ m ∷ ls) = cond (full room r) r (runLines room last (lined r l) (m ∷ ls))
+
+unfoldable pub runRule : Carried → List ℕ → Bool → ℕ → Run
+runRule k text last room = runLines room last (ran [] 0 k) (parts 10 text)
+
+-- what `run` leaves is the rule's run
+pub record Runs (w : Run) (buffer : List ℕ) (r : Ran) (left : Areas) (behind : List ℕ) : Type 0 where
+  pub takes : r .taken ≡ w .taken
+  pub makes : r .made ≡ length (w .said)
+  pub carries : r .station ≡ w .on .station
+  pub leaves : left ≡ w .on .lent
+  pub writes : behind ≡ sets buffer 0 (w .said)
+
+-- "Before an accepted format": nothing is lent, and the desk is none
+unfoldable pub freshStation : Station
+freshStation = record { desk = noDesk; «data» = 0; undo = 0; long = false }
