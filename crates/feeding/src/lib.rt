@@ -30,6 +30,15 @@ fn keep_rest(text: &mut [u8], from: usize, to: usize)
     }
 }
 
+// Writes answers, and says so where it cannot.
+fn say(answers: &[u8], output: i32) -> bool {
+    let said = io::write_all(output, answers);
+    if !said {
+        os::fail(b"chirimok: the answers");
+    }
+    said
+}
+
 // Answers every line of a text that is whole, and writes each answer. What comes back as kept was not taken.
 fn answer(
     data: &mut [u8],
@@ -50,19 +59,12 @@ fn answer(
         s = r.station;
         let made = r.made;
         let taken = r.taken;
-        if !io::write_all(output, &out[..made]) {
-            os::fail(b"chirimok: the answers");
-            return Fed {
-                station: s,
-                kept: 0,
-                more: false,
-            };
-        }
-        if taken == 0 {
+        let said = say(&out[..made], output);
+        if !said | (taken == 0) {
             return Fed {
                 station: s,
                 kept: text.len() - at,
-                more: !last,
+                more: said & !last,
             };
         }
         at += taken;

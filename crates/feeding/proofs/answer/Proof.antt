@@ -1,8 +1,10 @@
 -- `feeding::answer` meets its contract: each run takes something, or it is the last. Assumes nothing.
-use Prim.Native.Nat.{ℕ, _+_, _-_, _^_, _≤_, _<_}
+use Prim.Native.Nat.{ℕ, zero, suc, _+_, _-_, _^_, _≤_, _<_}
 use native.Mathlib.Omega.{arith}
 use mathlib.Core.Path.{_≡_, sym}
+use mathlib.Core.Bool.{Bool, true, false, not, _||_, true≢false}
 use mathlib.Core.List.{List}
+use lib.Dec.{eqb}
 use lib.ListN.{length, take, drop, length-drop}
 use lib.Seq.{length-take-le}
 use borrow.Author.Needs.{needs}
@@ -13,8 +15,14 @@ use Rattle.feeding.proofs.answer.Tie as tie
 part-long : (at : ℕ) (s : List ℕ) → at ≤ length s → length (take (length s - at) (drop at s)) ≡ length s - at
 part-long at s h = length-take-le (length s - at) (drop at s) (omega (arith, length-drop at s))
 
+-- a run that did not stop has taken something
+some : (said : Bool) (n : ℕ) → (not said || eqb n 0) ≡ false → 1 ≤ n
+some true zero e = absurd (true≢false e)
+some false zero e = absurd (true≢false e)
+some said (suc n) e = omega arith
+
 abbrev Inv-loop : tie.InvT-loop
-Inv-loop data₀ undo₀ status₀ text last out₀ output s₀ at₀ t14 «data» undo status out s at =
+Inv-loop data₀ undo₀ status₀ text last out₀ output s₀ at₀ «data» undo status out s at =
     (at ≤ length text + 1)
     × (length «data» ≡ length data₀)
     × (length undo ≡ length undo₀)
@@ -22,7 +30,16 @@ Inv-loop data₀ undo₀ status₀ text last out₀ output s₀ at₀ t14 «data
     × (length out ≡ length out₀)
 
 abbrev μ-loop : tie.MeasureT-loop
-μ-loop data₀ undo₀ status₀ text last out₀ output s₀ at₀ t14 «data» undo status out s at = length text + 1 - at
+μ-loop data₀ undo₀ status₀ text last out₀ output s₀ at₀ «data» undo status out s at = length text + 1 - at
+
+-- a run takes no more than is left
+taken : (c : tie.Else1 Inv-loop μ-loop)
+    → c .before .before .before .before .before .before .before .before .before .before .before .before .before .before .before .before .before .before .before .loop .at + c .before .before .before .before .before .before .before .before .before .before .before .before .run .result .taken ≤ length (c .before .before .before .before .before .before .before .before .before .before .before .before .before .before .before .before .before .before .before .before .before .before .before .before .before .args .text .now)
+taken c =
+    let start = c .before .before .before .before .before .before .before .before .before .before .before .before .before .before .before .before .before .before .before .before .before .before .before .before .before in
+    let head = c .before .before .before .before .before .before .before .before .before .before .before .before .before .before .before .before .before .before .before in
+    let inside : head .loop .at ≤ length (start .args .text .now) = c .before .before .before .before .before .before .before .before .before .before .before .before .before .before .before .before .before .before .loop-test .taken in
+    omega (arith, inside, c .before .before .before .before .before .before .before .before .before .before .before .before .run .ensures .0 .0, part-long (head .loop .at) (start .args .text .now) inside)
 
 loop-holds : tie.Need-loop-holds Inv-loop μ-loop
 loop-holds c = search needs
@@ -39,20 +56,17 @@ part-run-end c = search needs
 run-requires : tie.Need-run-requires Inv-loop μ-loop
 run-requires c κs = search needs
 
-slice-reshare-prefix-write-all : tie.Need-slice-reshare-prefix-write-all Inv-loop μ-loop
-slice-reshare-prefix-write-all c = search needs
+slice-reshare-prefix-say : tie.Need-slice-reshare-prefix-say Inv-loop μ-loop
+slice-reshare-prefix-say c = search needs
 
-slice-aggregate-write-all : tie.Need-slice-aggregate-write-all Inv-loop μ-loop
-slice-aggregate-write-all c = sym (length-take-le _ _ (slice-reshare-prefix-write-all (c .before)))
+slice-aggregate-say : tie.Need-slice-aggregate-say Inv-loop μ-loop
+slice-aggregate-say c = sym (length-take-le _ _ (slice-reshare-prefix-say (c .before)))
 
-write-all-requires : tie.Need-write-all-requires Inv-loop μ-loop
-write-all-requires c κs = search needs
+say-requires : tie.Need-say-requires Inv-loop μ-loop
+say-requires c κs = search needs
 
-slice-aggregate-fail : tie.Need-slice-aggregate-fail Inv-loop μ-loop
-slice-aggregate-fail c = search needs
-
-fail-requires : tie.Need-fail-requires Inv-loop μ-loop
-fail-requires c κs = search needs
+sub-t33 : tie.Need-sub-t33 Inv-loop μ-loop
+sub-t33 c = search needs
 
 same-length : tie.Need-same-length Inv-loop μ-loop
 same-length c = search needs
@@ -69,8 +83,24 @@ same-length-4 c = search needs
 returns : tie.Need-returns Inv-loop μ-loop
 returns c = search needs
 
-sub-t35 : tie.Need-sub-t35 Inv-loop μ-loop
-sub-t35 c = search needs
+add-at : tie.Need-add-at Inv-loop μ-loop
+add-at c =
+    let start = c .before .before .before .before .before .before .before .before .before .before .before .before .before .before .before .before .before .before .before .before .before .before .before .before .before in
+    let room : length (start .args .text .now) < 2 ^ 64 = start .good .1 .1 .1 .1 .0 .0 in
+    record { fits = omega (arith, room, taken c) }
+
+loop-less : tie.Need-loop-less Inv-loop μ-loop
+loop-less c = omega (arith, taken c, some (c .before .say .result) (c .before .before .before .before .before .before .before .before .before .before .before .before .run .result .taken) (c .if1 .left))
+
+loop-again : tie.Need-loop-again Inv-loop μ-loop
+loop-again c =
+    let head = c .before .before .before .before .before .before .before .before .before .before .before .before .before .before .before .before .before .before .before in (
+      omega (arith, taken c),
+      omega (arith, head .loop .inv .1),
+      omega (arith, head .loop .inv .2),
+      omega (arith, head .loop .inv .3),
+      omega (arith, head .loop .inv .4),
+    )
 
 same-length-5 : tie.Need-same-length-5 Inv-loop μ-loop
 same-length-5 c = search needs
@@ -87,34 +117,6 @@ same-length-8 c = search needs
 returns-2 : tie.Need-returns-2 Inv-loop μ-loop
 returns-2 c = search needs
 
-add-at : tie.Need-add-at Inv-loop μ-loop
-add-at c =
-    let start = c .before .before .before .before .before .before .before .before .before .before .before .before .before .before .before .before .before .before .before .before .before .before .before .before .before .before in
-    let head = c .before .before .before .before .before .before .before .before .before .before .before .before .before .before .before .before .before .before .before .before in
-    let room : length (start .args .text .now) < 2 ^ 64 = start .good .1 .1 .1 .1 .0 .0 in
-    record { fits = omega (arith, room, c .before .before .before .before .before .before .before .before .before .before .before .before .before .run .ensures .0 .0, part-long (head .loop .at) (start .args .text .now) (c .before .before .before .before .before .before .before .before .before .before .before .before .before .before .before .before .before .before .before .loop-test .taken)) }
-
-loop-less : tie.Need-loop-less Inv-loop μ-loop
-loop-less c = search needs
-
-loop-again : tie.Need-loop-again Inv-loop μ-loop
-loop-again c = search needs
-
-same-length-9 : tie.Need-same-length-9 Inv-loop μ-loop
-same-length-9 c = search needs
-
-same-length-10 : tie.Need-same-length-10 Inv-loop μ-loop
-same-length-10 c = search needs
-
-same-length-11 : tie.Need-same-length-11 Inv-loop μ-loop
-same-length-11 c = search needs
-
-same-length-12 : tie.Need-same-length-12 Inv-loop μ-loop
-same-length-12 c = search needs
-
-returns-3 : tie.Need-returns-3 Inv-loop μ-loop
-returns-3 c = search needs
-
 pub answer-spec : {M : Type 1} → statement M
 answer-spec =
     tie.close
@@ -126,27 +128,20 @@ answer-spec =
     part-run-start
     part-run-end
     run-requires
-    slice-reshare-prefix-write-all
-    slice-aggregate-write-all
-    write-all-requires
-    slice-aggregate-fail
-    fail-requires
+    slice-reshare-prefix-say
+    slice-aggregate-say
+    say-requires
+    sub-t33
     same-length
     same-length-2
     same-length-3
     same-length-4
     returns
-    sub-t35
+    add-at
+    loop-less
+    loop-again
     same-length-5
     same-length-6
     same-length-7
     same-length-8
-    returns-2
-    add-at
-    loop-less
-    loop-again
-    same-length-9
-    same-length-10
-    same-length-11
-    same-length-12
-    returns-3)
+    returns-2)
