@@ -1,3 +1,4 @@
 pub mod Rests
 pub mod Steps
 pub mod Runs
+pub mod Promises

@@ -26,19 +26,19 @@ use Rattle.script.specs.Script.{Carried, carried, turnIn, stepped, callI
 
 -- ---- the rule, step by step
 
-full-no : (room : ℕ) (r : Run) → length (r .said) + longest ≤ room → full room r ≡ false
+pub full-no : (room : ℕ) (r : Run) → length (r .said) + longest ≤ room → full room r ≡ false
 full-no room r h = le-ltb room (length (r .said) + longest) h
 
-full-yes : (room : ℕ) (r : Run) → room < length (r .said) + longest → full room r ≡ true
+pub full-yes : (room : ℕ) (r : Run) → room < length (r .said) + longest → full room r ≡ true
 full-yes room r h = lt-ltb room (length (r .said) + longest) h
 
-run-full : (room : ℕ) (last : Bool) (r : Run) (ls : List (List ℕ)) → full room r ≡ true → runLines room last r ls ≡ r
+pub run-full : (room : ℕ) (last : Bool) (r : Run) (ls : List (List ℕ)) → full room r ≡ true → runLines room last r ls ≡ r
 unfolding runLines
 run-full room last r [] h = refl
 run-full room last r (l ∷ []) h = rw h refl
 run-full room last r (l ∷ m ∷ ls) h = rw h refl
 
-run-next : (room : ℕ) (last : Bool) (r : Run) (l : List ℕ) (b : ℕ) (s : List ℕ) → full room r ≡ false
+pub run-next : (room : ℕ) (last : Bool) (r : Run) (l : List ℕ) (b : ℕ) (s : List ℕ) → full room r ≡ false
     → runLines room last r (l ∷ parts b s) ≡ runLines room last (lined r l) (parts b s)
 unfolding runLines
 run-next room last r l b s h =
@@ -49,7 +49,7 @@ run-next room last r l b s h =
     on : (ls : List (List ℕ)) → runLines room last r (l ∷ before b s ∷ ls) ≡ runLines room last (lined r l) (before b s ∷ ls)
     on ls = rw h refl
 
-run-last : (room : ℕ) (last : Bool) (r : Run) (l : List ℕ) → full room r ≡ false → runLines room last r (l ∷ []) ≡ rested last r l
+pub run-last : (room : ℕ) (last : Bool) (r : Run) (l : List ℕ) → full room r ≡ false → runLines room last r (l ∷ []) ≡ rested last r l
 unfolding runLines
 run-last room last r l h = rw h refl
 

@@ -1,7 +1,7 @@
 -- Laws of a text parted by a byte: what stands before the first one, the parts, and a part that lacks it. Assumes nothing.
 use mathlib.Core.Path.{_≡_, refl, sym, ap, _∙_}
 use mathlib.Core.Bool.{Bool, true, false, not, _&&_, cond}
-use mathlib.Core.List.{List, [], _∷_, _++_}
+use mathlib.Core.List.{List, [], _∷_, _++_, append-assoc}
 use Prim.Native.Nat.{ℕ, suc, _+_, _≤_, _<_}
 use native.Mathlib.Numerals.{add-one}
 use native.Mathlib.Omega.{arith}
@@ -168,3 +168,21 @@ pub parts-alone : (b : ℕ) (w : List ℕ) → lacks b w ≡ true → parts b w 
 unfolding parts
 parts-alone b [] h = refl
 parts-alone b (x ∷ w) h = rw (lacks-head b x w h) (ap (onto x) (parts-alone b w (lacks-tail b x w h)))
+
+-- ---- parts of a text with more behind it
+
+-- a part that has ended stays
+pub parts-ended-append : (b : ℕ) (s more : List ℕ) → length (before b s) < length s
+    → parts b (s ++ more) ≡ before b s ∷ parts b (drop (length (before b s) + 1) s ++ more)
+parts-ended-append b s more h =
+    ap (λ (l : List ℕ). parts b (l ++ more)) (before-split b s h)
+    ∙ ap (parts b) (append-assoc (before b s) (b ∷ drop (length (before b s) + 1) s) more)
+    ∙ parts-joined b (before b s) (drop (length (before b s) + 1) s ++ more) (lacks-before b s)
+
+-- one that has not is glued onto the first part of what comes
+pub parts-glued : (b : ℕ) (s more : List ℕ) → lacks b s ≡ true
+    → parts b (s ++ more)
+    ≡ (s ++ before b more) ∷ cond (ltb (length (before b more)) (length more)) (parts b (drop (length (before b more) + 1) more)) []
+unfolding parts
+parts-glued b [] more h = parts-cut b more
+parts-glued b (x ∷ w) more h = rw (lacks-head b x w h) (ap (onto x) (parts-glued b w more (lacks-tail b x w h)))

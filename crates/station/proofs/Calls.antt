@@ -1,0 +1,92 @@
+-- A call of the station's library, from what its own function ensures; the desk's words, by whether the call is done; and where a body
+-- lies, as the code finds it. Assumes nothing.
+use Prim.Native.Nat.{ℕ, _+_, _≤_, _<_}
+use mathlib.Core.Path.{_≡_, refl, ap, subst, _∙_}
+use mathlib.Core.List.{List, [], _∷_}
+use lib.ListN.{length, set}
+use native.Mathlib.Omega.{arith}
+use borrow.Author.Tests.{lt-ltb, le-ltb, ne-eqb}
+use Rattle.ground.specs.Does.{Does}
+use Rattle.kind.specs.Kind.{rows, entries}
+use Rattle.kind.specs.Areas.{Areas}
+use Rattle.desk.specs.declared.Desk.{Desk}
+use Rattle.records.specs.Slot.{slotPlace}
+use Rattle.records.specs.Entry.{entryPlace}
+use Rattle.chain.specs.declared.Place.{Place}
+use Rattle.chain.specs.declared.Place.the-variants.{Nowhere, Data, Undo}
+use Rattle.words.specs.Words.{wordsOf}
+use Rattle.station.specs.Station.{left, kept, liesOf}
+
+-- ---- a call
+
+-- what a call answers and leaves, by what its own function says (`code`, `words`, `out`) and leaves (`lent`)
+pub calls : {A B : Type 0} (code : A → ℕ) (lent : B → Areas) (words out : A → List ℕ) (rule : A × B) {a : A} {b : B} {n : ℕ} {w o : List ℕ}
+    → Does rule a b
+    → n ≡ code a
+    → w ≡ words a
+    → o ≡ out a
+    → Does (code (rule .0), left (lent (rule .1)) (words (rule .0)) (out (rule .0))) n (left (lent b) w o)
+calls code lent words out rule done n w o =
+    let l = done .leaves in
+    let w′ = w ∙ ap words (done .answers) in
+    let o′ = o ∙ ap out (done .answers) in
+    record { answers = n ∙ ap code (done .answers); leaves = λ i. left (lent (l i)) (w′ i) (o′ i) }
+
+-- the call of the desk that was made of the words is the call of the desk that they say
+pub on-desk : {A B : Type 0} (rule : Desk → A × B) {d e : Desk} {a : A} {b : B} → d ≡ e → Does (rule d) a b → Does (rule e) a b
+on-desk rule {a = a} {b} same done = subst (λ (d : Desk). Does (rule d) a b) same done
+
+-- a call that writes no area leaves them
+pub reads : {A B : Type 0} (rule : A) {a : A} (b : B) → a ≡ rule → Does (rule, b) a b
+reads rule b e = record { answers = e; leaves = refl }
+
+-- ---- the desk's words, by whether the call is done
+
+module _ (n : ℕ) (d : Desk) (w : List ℕ) where
+  pub kept-new : {l : List ℕ} → n ≡ 0 → l ≡ wordsOf d → l ≡ kept n d w
+  kept-new done e = rw done e
+
+  pub kept-old : (n ≡ 0 → ⊥) → w ≡ kept n d w
+  kept-old refused = rw (ne-eqb n 0 refused)
+
+-- the answer, as its function says it
+pub kept-by : {n m : ℕ} (d : Desk) (w : List ℕ) {l : List ℕ} → n ≡ m → l ≡ kept n d w → l ≡ kept m d w
+kept-by d w same e = e ∙ ap (λ (n : ℕ). kept n d w) same
+
+-- ---- what is reported, in words that are lent
+
+pub one-put : (out : List ℕ) (a : ℕ) → length out ≡ 1 → set out 0 a ≡ a ∷ []
+one-put [] a e = absurd (omega arith)
+one-put (x ∷ []) a e = refl
+one-put (x ∷ y ∷ l) a e = absurd (omega arith)
+
+pub two-put : (out : List ℕ) (a b : ℕ) → length out ≡ 2 → set (set out 0 a) 1 b ≡ a ∷ b ∷ []
+two-put [] a b e = absurd (omega arith)
+two-put (x ∷ out) a b e = let rest : length out ≡ 1 = omega arith in ap (λ (l : List ℕ). a ∷ l) (one-put out b rest)
+
+pub three-put : (out : List ℕ) (a b c : ℕ) → length out ≡ 3 → set (set (set out 0 a) 1 b) 2 c ≡ a ∷ b ∷ c ∷ []
+three-put [] a b c e = absurd (omega arith)
+three-put (x ∷ out) a b c e = let rest : length out ≡ 2 = omega arith in ap (λ (l : List ℕ). a ∷ l) (two-put out b c rest)
+
+-- ---- where a body lies: `at` is the place of its record, as the code found it
+
+module _ {place : Place} (d u : List ℕ) where
+  pub lies-slot : {at : ℕ} (r : ℕ) → place ≡ Data r → r < rows d → at ≡ slotPlace r → (1, at + 32) ≡ liesOf place d u
+  unfolding liesOf
+  lies-slot r is inside found = rw (is, lt-ltb r (rows d) inside) (ap (λ (n : ℕ). (1, n + 32)) found)
+
+  pub lies-copy : {at : ℕ} (e : ℕ) → place ≡ Undo e → e < entries u → at ≡ entryPlace e → (2, at + 48) ≡ liesOf place d u
+  unfolding liesOf
+  lies-copy e is inside found = rw (is, lt-ltb e (entries u) inside) (ap (λ (n : ℕ). (2, n + 48)) found)
+
+  pub lies-nowhere : place ≡ Nowhere → (0, 0) ≡ liesOf place d u
+  unfolding liesOf
+  lies-nowhere is = rw is
+
+  pub lies-no-slot : (r : ℕ) → place ≡ Data r → rows d ≤ r → (0, 0) ≡ liesOf place d u
+  unfolding liesOf
+  lies-no-slot r is outside = rw (is, le-ltb r (rows d) outside)
+
+  pub lies-no-copy : (e : ℕ) → place ≡ Undo e → entries u ≤ e → (0, 0) ≡ liesOf place d u
+  unfolding liesOf
+  lies-no-copy e is outside = rw (is, le-ltb e (entries u) outside)

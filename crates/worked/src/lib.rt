@@ -1,0 +1,1 @@
+// No code: specs/ has the paper's whole worked run, proofs/ that the rules answer it so.

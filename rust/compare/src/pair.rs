@@ -1,0 +1,51 @@
+//! Two engines side by side.
+
+use crate::{Answer, Call, Engine, Store};
+
+/// Two engines on copies of one store.
+pub struct Pair<'e> {
+    engines: [&'e dyn Engine; 2],
+    stores: [Store; 2],
+    before: Store,
+}
+
+impl<'e> Pair<'e> {
+    pub fn new(engines: [&'e dyn Engine; 2], store: Store) -> Self {
+        Self { engines, stores: [store.clone(), store.clone()], before: store }
+    }
+
+    /// The store, the same for both engines.
+    pub fn store(&self) -> &Store {
+        &self.stores[0]
+    }
+
+    /// Puts another store in place of both copies.
+    pub fn reset(&mut self, store: &Store) {
+        self.stores.iter_mut().for_each(|copy| copy.clone_from(store));
+    }
+
+    /// Makes the call with both engines. Answers, values, desk and every byte of the areas must be
+    /// the same, and "every refusal leaves areas and desk unchanged".
+    pub fn must_agree(&mut self, call: &Call) -> Answer {
+        let [one, two] = self.engines;
+        let [store_one, store_two] = &mut self.stores;
+        self.before.clone_from(store_one);
+        let answer = one.call(store_one, call);
+        let other = two.call(store_two, call);
+        assert_eq!(answer, other, "{} and {}, after {call:?}", one.name(), two.name());
+        if let Some(difference) = store_one.difference(store_two) {
+            panic!("{} and {} leave, after {call:?}, {difference}", one.name(), two.name());
+        }
+        if answer.code != 0 {
+            self.check_refusal(call, answer);
+        }
+        answer
+    }
+
+    fn check_refusal(&self, call: &Call, answer: Answer) {
+        assert_eq!(answer.values, [0; 3], "a refused {call:?} reports numbers");
+        if let Some(difference) = self.before.difference(self.store()) {
+            panic!("{call:?} is refused with {} and changes {difference}", answer.code);
+        }
+    }
+}

@@ -1,0 +1,104 @@
+//! The lent areas and the desk, as one value that can be copied and compared.
+
+use crate::layout::PAGE;
+
+/// Words in a desk: next, 16 numbers, 16 statements, 16 lists of 15.
+pub const WORDS: usize = 273;
+
+const NUMBERS: usize = 1;
+const STATEMENTS: usize = 17;
+const LISTS: usize = 33;
+
+/// Areas and desk. The desk is kept in words, so that it can hold anything a caller could pass.
+#[derive(Clone, PartialEq, Eq)]
+pub struct Store {
+    pub data: Vec<u8>,
+    pub undo: Vec<u8>,
+    pub status: Vec<u8>,
+    pub desk: [u64; WORDS],
+}
+
+impl Store {
+    /// Areas that hold nothing sensible yet, and a desk to match.
+    pub fn unformatted(data_pages: usize, undo_pages: usize) -> Self {
+        Self {
+            data: vec![0xA5; data_pages * PAGE],
+            undo: vec![0x5A; undo_pages * PAGE],
+            status: vec![0xFF; PAGE],
+            desk: [u64::MAX; WORDS],
+        }
+    }
+
+    pub fn rows(&self) -> u64 {
+        (self.data.len() / PAGE * 127) as u64
+    }
+
+    pub fn next(&self) -> u64 {
+        self.desk[0]
+    }
+
+    pub fn next_mut(&mut self) -> &mut u64 {
+        &mut self.desk[0]
+    }
+
+    pub fn number_mut(&mut self, place: usize) -> &mut u64 {
+        &mut self.desk[NUMBERS + place]
+    }
+
+    pub fn statement_mut(&mut self, place: usize) -> &mut u64 {
+        &mut self.desk[STATEMENTS + place]
+    }
+
+    pub fn member_mut(&mut self, place: usize, member: usize) -> &mut u64 {
+        &mut self.desk[LISTS + place * 15 + member]
+    }
+
+    /// The numbers in the desk's session places, up to the first zero.
+    pub fn sessions(&self) -> impl Iterator<Item = u64> + Clone + '_ {
+        self.desk[NUMBERS..STATEMENTS].iter().copied().take_while(|&number| number != 0)
+    }
+
+    /// The desk as `plain` takes it. A statement that does not fit 32 bits stays unsound.
+    pub fn plain_desk(&self) -> plain::Desk {
+        let statement = |word: u64| u32::try_from(word).unwrap_or(u32::MAX);
+        plain::Desk {
+            next: self.next(),
+            numbers: std::array::from_fn(|place| self.desk[NUMBERS + place]),
+            statements: std::array::from_fn(|place| statement(self.desk[STATEMENTS + place])),
+            lists: std::array::from_fn(|place| {
+                std::array::from_fn(|member| self.desk[LISTS + place * 15 + member])
+            }),
+        }
+    }
+
+    pub fn set_plain_desk(&mut self, desk: &plain::Desk) {
+        self.desk[0] = desk.next;
+        self.desk[NUMBERS..STATEMENTS].copy_from_slice(&desk.numbers);
+        for (word, &statement) in self.desk[STATEMENTS..LISTS].iter_mut().zip(&desk.statements) {
+            *word = u64::from(statement);
+        }
+        self.desk[LISTS..].copy_from_slice(desk.lists.as_flattened());
+    }
+
+    /// Where another store differs, in words for a failing test; none where it is equal.
+    pub fn difference(&self, other: &Self) -> Option<String> {
+        bytes_difference("data", &self.data, &other.data)
+            .or_else(|| bytes_difference("undo", &self.undo, &other.undo))
+            .or_else(|| bytes_difference("status", &self.status, &other.status))
+            .or_else(|| {
+                let word = (0..WORDS).find(|&word| self.desk[word] != other.desk[word])?;
+                let (one, two) = (self.desk[word], other.desk[word]);
+                Some(format!("desk word {word}: {one} and {two}"))
+            })
+    }
+}
+
+fn bytes_difference(area: &str, one: &[u8], other: &[u8]) -> Option<String> {
+    if one == other {
+        return None;
+    }
+    let at = one.iter().zip(other).position(|(one, other)| one != other);
+    let at = at.unwrap_or(one.len().min(other.len()));
+    let (page, offset) = (at / PAGE + 1, at % PAGE);
+    Some(format!("{area} page {page}, offset {offset}: {:?} and {:?}", one.get(at), other.get(at)))
+}

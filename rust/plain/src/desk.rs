@@ -1,0 +1,148 @@
+//! The desk: the next number and the open sessions (01, Sessions and sight).
+
+use crate::Refusal;
+use crate::status::HIGHEST_NUMBER;
+
+/// The most sessions open at a time.
+pub const SESSIONS: usize = 16;
+
+/// The most numbers that can be open when a session begins.
+pub const MEMBERS: usize = 15;
+
+/// The session record that goes into each call. Used places come first; unused ones are zero.
+#[derive(Clone, Debug, PartialEq, Eq)]
+pub struct Desk {
+    /// The number that the next session gets.
+    pub next: u64,
+    /// The open sessions' numbers, ascending.
+    pub numbers: [u64; SESSIONS],
+    /// The statement in which each session is.
+    pub statements: [u32; SESSIONS],
+    /// The numbers that were open when each session began, ascending.
+    pub lists: [[u64; MEMBERS]; SESSIONS],
+}
+
+/// An open session, as sight needs it.
+#[derive(Clone, Copy)]
+pub struct Session<'a> {
+    /// Its place at the desk.
+    pub place: usize,
+    pub number: u64,
+    pub statement: u32,
+    pub list: &'a [u64; MEMBERS],
+}
+
+/// Whether used places come first, ascend and stay below `limit`, and the others are zero.
+#[inline]
+fn places_sound(places: &[u64], limit: u64) -> bool {
+    let (used, unused) = places.split_at(used(places));
+    used.is_sorted_by(|one, other| one < other)
+        && used.last().is_none_or(|&last| last < limit)
+        && all_zero(unused)
+}
+
+/// One test at the end instead of one for each place, eight places a step: most places of a desk are
+/// unused, and every call looks at all of them.
+#[inline]
+fn all_zero(places: &[u64]) -> bool {
+    let (eights, rest) = places.as_chunks::<8>();
+    let mut lanes = [0; 8];
+    for eight in eights {
+        for (lane, place) in lanes.iter_mut().zip(eight) {
+            *lane |= place;
+        }
+    }
+    lanes.iter().chain(rest).fold(0, |all, place| all | place) == 0
+}
+
+/// How many places stand before the first zero.
+#[inline]
+fn used(places: &[u64]) -> usize {
+    places.iter().position(|&place| place == 0).unwrap_or(places.len())
+}
+
+impl Desk {
+    /// The first number that a store hands out.
+    pub const FIRST_NUMBER: u64 = 1;
+
+    /// The statement in which a session begins.
+    pub const FIRST_STATEMENT: u32 = 0;
+
+    /// The statement that no session moves on from.
+    pub const LAST_STATEMENT: u32 = 65_535;
+
+    /// `next` once all numbers are handed out.
+    pub const NUMBERS_END: u64 = HIGHEST_NUMBER + 1;
+
+    /// A desk without sessions.
+    pub const fn without_sessions(next: u64) -> Self {
+        Self {
+            next,
+            numbers: [0; SESSIONS],
+            statements: [0; SESSIONS],
+            lists: [[0; MEMBERS]; SESSIONS],
+        }
+    }
+
+    /// How many sessions are open.
+    #[inline]
+    pub fn open(&self) -> usize {
+        used(&self.numbers)
+    }
+
+    /// Refusal 2. Soundness is judged from the desk alone.
+    #[inline]
+    pub fn check_sound(&self) -> Result<(), Refusal> {
+        let open = self.open();
+        let sound = (Self::FIRST_NUMBER..=Self::NUMBERS_END).contains(&self.next)
+            && places_sound(&self.numbers, self.next)
+            && self.statements[..open].iter().all(|&statement| statement <= Self::LAST_STATEMENT)
+            && self.statements[open..].iter().all(|&statement| statement == 0)
+            && self.lists_sound(open);
+        if sound { Ok(()) } else { Err(Refusal::UnsoundDesk) }
+    }
+
+    #[inline]
+    fn lists_sound(&self, open: usize) -> bool {
+        let (used, unused) = self.lists.split_at(open);
+        used.iter().zip(&self.numbers).all(|(list, &number)| places_sound(list, number))
+            && all_zero(unused.as_flattened())
+    }
+
+    /// The open session `number`, or refusal 4. Number 0 is never open, though unused places hold it.
+    #[inline]
+    pub fn session(&self, number: u64) -> Result<Session<'_>, Refusal> {
+        let place = self.numbers.iter().position(|&open| open == number && open != 0);
+        let place = place.ok_or(Refusal::SessionNotOpen)?;
+        Ok(Session { place, number, statement: self.statements[place], list: &self.lists[place] })
+    }
+
+    /// The smallest among all open sessions' numbers and list members; with none open, the next
+    /// number. All ascend, so the first of each is the smallest.
+    pub fn mark(&self) -> u64 {
+        let open = self.open();
+        let members = self.lists[..open].iter().map(|list| list[0]).filter(|&member| member != 0);
+        members.chain(self.numbers[..open].first().copied()).min().unwrap_or(self.next)
+    }
+
+    /// Opens a session in the first unused place, which must be there, and answers its number.
+    pub fn begin(&mut self) -> u64 {
+        let open = self.open();
+        let number = self.next;
+        self.lists[open][..open].copy_from_slice(&self.numbers[..open]);
+        self.numbers[open] = number;
+        self.statements[open] = Self::FIRST_STATEMENT;
+        self.next += 1;
+        number
+    }
+
+    /// Moves later sessions up. Other sessions' lists keep the closed number.
+    pub fn close(&mut self, place: usize) {
+        self.numbers.copy_within(place + 1.., place);
+        self.statements.copy_within(place + 1.., place);
+        self.lists.copy_within(place + 1.., place);
+        self.numbers[SESSIONS - 1] = 0;
+        self.statements[SESSIONS - 1] = 0;
+        self.lists[SESSIONS - 1] = [0; MEMBERS];
+    }
+}

@@ -1,0 +1,38 @@
+//! The page store of document 01 in ordinary Rust: the version that the proved library is compared
+//! with, in answers, bytes and time (02, T-12).
+//!
+//! The store works on three areas lent by the caller (data, undo and status, in pages of 8,192
+//! bytes) and on a [`Desk`] that holds the open sessions. Nothing is allocated and nothing is kept
+//! between calls. Every call answers exactly as document 01 says for arbitrary bytes in the areas
+//! and arbitrary desks, and a refused call leaves both as they were.
+//!
+//! Arguments stand in the same order everywhere: data, undo, status, desk, session, row, body.
+
+#![forbid(unsafe_code)]
+
+mod bytes;
+mod chain;
+mod crc32c;
+mod desk;
+mod entry;
+mod page;
+mod refusal;
+mod rows;
+mod sessions;
+mod sight;
+mod slot;
+mod status;
+mod store;
+mod sweep;
+mod touch;
+mod withdraw;
+
+pub use chain::{Area, Place};
+pub use crc32c::crc32c;
+pub use desk::Desk;
+pub use refusal::Refusal;
+pub use rows::{Reading, delete, insert, read, update};
+pub use sessions::{begin, commit, next};
+pub use store::{format, open, seal};
+pub use sweep::{Swept, sweep};
+pub use withdraw::withdraw;

@@ -1,0 +1,44 @@
+//! The refusal numbers.
+
+/// Why a call did nothing, with the numbers of 01, "When the desk says no".
+#[derive(Clone, Copy, Debug, PartialEq, Eq)]
+#[repr(u32)]
+pub enum Refusal {
+    /// An area's length isn't allowed.
+    AreaLength = 1,
+    /// The desk is unsound.
+    UnsoundDesk = 2,
+    /// Open found a wrong header field or a number that isn't closed.
+    UnsoundStore = 3,
+    /// The session is not open.
+    SessionNotOpen = 4,
+    /// The row is outside the data area, or the body isn't 32 bytes long.
+    RowOrBody = 5,
+    /// A broken chain was met.
+    BrokenChain = 6,
+    /// No version of the row is there for the session.
+    NoVersion = 7,
+    /// The session itself wrote the row, in this statement or by deleting it.
+    OwnWrite = 8,
+    /// Another writer of the row is not committed.
+    WriterInWork = 9,
+    /// A writer of the row whom the session does not see is committed.
+    WriterCommitted = 10,
+    /// No empty slot, or no free undo entry.
+    NoRoom = 11,
+    /// Sixteen sessions are open.
+    SessionsFull = 12,
+    /// All numbers are handed out.
+    NumbersUsedUp = 13,
+    /// The session is in its last statement.
+    StatementsUsedUp = 14,
+    /// Seal found an open session.
+    SessionOpen = 15,
+}
+
+impl Refusal {
+    /// The number that document 01 gives this refusal.
+    pub const fn number(self) -> u32 {
+        self as u32
+    }
+}

@@ -1,0 +1,73 @@
+//! The status page: two bits for each number, and the highest number handed out (01, The page).
+
+use crate::bytes::{put, u64_at};
+use crate::page::{HEADER, TXN_ID};
+
+/// The highest number for which the page has room.
+pub const HIGHEST_NUMBER: u64 = 32_575;
+
+/// What a number's two bits say; 11 is reserved and never written.
+#[derive(Clone, Copy, PartialEq, Eq)]
+#[repr(u8)]
+pub enum State {
+    InWork = 0b00,
+    Committed = 0b01,
+    Withdrawn = 0b10,
+}
+
+/// The byte that holds the bits of `number`, and how far they are shifted in it.
+#[inline]
+const fn place(number: u64) -> (usize, u32) {
+    (HEADER + (number / 4) as usize, (number % 4) as u32 * 2)
+}
+
+/// "Number 0 and numbers above 32,575 are never committed."
+#[inline]
+pub fn committed(status: &[u8], number: u64) -> bool {
+    if number == 0 || number > HIGHEST_NUMBER {
+        return false;
+    }
+    let (byte, shift) = place(number);
+    status[byte] >> shift & 0b11 == State::Committed as u8
+}
+
+/// Sets the bits of `number` and leaves its neighbours'.
+#[inline]
+pub fn set(status: &mut [u8], number: u64, state: State) {
+    let (byte, shift) = place(number);
+    status[byte] = status[byte] & !(0b11 << shift) | (state as u8) << shift;
+}
+
+/// The highest number handed out: the status page's txn_id.
+pub fn highest(status: &[u8]) -> u64 {
+    u64_at(status, TXN_ID)
+}
+
+pub fn put_highest(status: &mut [u8], number: u64) {
+    put(status, TXN_ID, number.to_le_bytes());
+}
+
+/// Whether the highest number has a place, and each number from 1 to it is committed or withdrawn.
+pub fn all_closed(status: &[u8]) -> bool {
+    let highest = highest(status);
+    highest <= HIGHEST_NUMBER && (1..=highest).all(|number| closed(status, number))
+}
+
+/// 01 and 10 are the states whose two bits differ.
+fn closed(status: &[u8], number: u64) -> bool {
+    let (byte, shift) = place(number);
+    let bits = status[byte] >> shift;
+    (bits ^ bits >> 1) & 1 == 1
+}
+
+#[cfg(test)]
+mod tests {
+    use super::*;
+
+    /// P1 and P2 of the gauge pieces.
+    #[test]
+    fn gauge_places() {
+        assert_eq!(place(32_575), (8191, 6));
+        assert_eq!(place(5), (49, 2));
+    }
+}
