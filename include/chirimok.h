@@ -11,11 +11,11 @@
  *
  * Areas are passed as a pointer and a length in bytes and need no alignment. The desk and the out
  * arrays must be aligned for uint64_t (8 bytes). No two of the lent parts may overlap. No pointer
- * may be NULL, even where its length is 0. Where a parameter points to const, the call does not
- * write there; where it does not, the call may write, and only if it is accepted.
+ * may be NULL, even where its length is 0. A call never writes where a parameter points to const.
+ * It writes the out array always, and the areas and the desk only if it is accepted.
  *
  * Threads: calls on different stores may run at the same time. Calls on one store may not, unless
- * all of them take nothing but pointers to const.
+ * all of them are reads, each with an out array of its own.
  *
  * Each call answers CHIRIMOK_DONE or the number of its refusal. Where several refusals apply, the
  * lowest is given. A refused call leaves areas and desk as they were and fills its out array with

@@ -1,5 +1,6 @@
-//! The noon work of 02, T-12: 100,000 reads and updates, nine reads to one update over 300 rows, with
-//! a new session for each update and its nine reads and a sweep of all rows after every 200 updates.
+//! The noon work of 02, T-12: 100,000 reads and updates, nine reads to one update over 300 rows,
+//! with a new session for each update and its nine reads and a sweep of all rows after every 200
+//! updates.
 //!
 //! Both engines do the same work on areas of their own, written over beforehand so that the first
 //! touch of a page is nobody's cost. They take turns, and the best of several turns counts. The sum
@@ -64,5 +65,5 @@ fn main() {
     plain.print("plain");
     station.print("station");
     let ratio = station.best().as_secs_f64() / plain.best().as_secs_f64();
-    println!("station takes {ratio:.2} times as long (at most 1.50)");
+    println!("station takes {ratio:.2} times as long");
 }

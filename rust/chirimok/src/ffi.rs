@@ -151,9 +151,9 @@ unsafe extern "C" {
     ) -> u32;
 }
 
-// Each call below is sound for the same reason: every pointer comes from a reference to as many bytes
-// or words as the length or the type says, exclusive where the function writes, and the library
-// keeps none of them.
+// Each call below is sound for the same reason: every pointer comes from a reference to as many
+// bytes or words as the length or the type says, exclusive where the function writes, and the
+// library keeps none of them.
 
 pub fn format(data: &mut [u8], undo: &mut [u8], status: &mut [u8], desk: &mut Words) -> u32 {
     // SAFETY: pointers and lengths of exclusive references.

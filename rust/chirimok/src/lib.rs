@@ -1,9 +1,9 @@
 //! Safe Rust over the proved page store of document 01.
 //!
 //! The store keeps nothing: it works on three areas that the caller lends ([`Store`]) and on a
-//! [`Desk`] that holds the open sessions. A refused call says why ([`Refusal`]) and leaves areas and
-//! desk as they were. A reading lies where it was found: [`Store::read`] hands back a part of the
-//! lent area and no copy.
+//! [`Desk`] that holds the open sessions. A refused call says why ([`Refusal`]) and leaves areas
+//! and desk as they were. A reading lies where it was found: [`Store::read`] hands back a part of
+//! the lent area and no copy.
 //!
 //! ```
 //! # fn main() -> Result<(), chirimok::Refusal> {

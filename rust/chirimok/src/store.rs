@@ -5,11 +5,12 @@ use crate::{Desk, Refusal, ffi};
 /// Bytes in a body.
 const BODY: usize = 32;
 
-/// The three lent areas: data (1 to 64 pages of 8,192 bytes), undo (1 to 64) and status (exactly 1).
+/// The three lent areas: data (1 to 64 pages of 8,192 bytes), undo (1 to 64) and status (exactly
+/// 1).
 ///
-/// Lengths are checked by each call and not here: every call can answer [`Refusal::AreaLength`], and
-/// every one that takes a desk it does not replace can answer [`Refusal::UnsoundDesk`]. The other
-/// refusals are listed at each call. Where several apply, the lowest number is given.
+/// Lengths are checked by each call and not here: every call can answer [`Refusal::AreaLength`],
+/// and every one that takes a desk it does not replace can answer [`Refusal::UnsoundDesk`]. The
+/// other refusals are listed at each call. Where several apply, the lowest number is given.
 pub struct Store<'a> {
     data: &'a mut [u8],
     undo: &'a mut [u8],
@@ -103,8 +104,8 @@ impl<'a> Store<'a> {
         answered(number).map(|()| out[0])
     }
 
-    /// Replaces the row's body and keeps the old one for those who still read it. Numbers 4 to 11 of
-    /// [`Refusal`].
+    /// Replaces the row's body and keeps the old one for those who still read it. Numbers 4 to 11
+    /// of [`Refusal`].
     pub fn update(
         &mut self,
         desk: &Desk,
@@ -144,8 +145,8 @@ impl<'a> Store<'a> {
         answered(ffi::withdraw(self.data, self.undo, self.status, desk.words_mut(), session))
     }
 
-    /// Removes versions that nobody can read any more, in `quota` rows from `first` on or in as many
-    /// as are left. [`Refusal::RowOrBody`], [`Refusal::BrokenChain`].
+    /// Removes versions that nobody can read any more, in `quota` rows from `first` on or in as
+    /// many as are left. [`Refusal::RowOrBody`], [`Refusal::BrokenChain`].
     pub fn sweep(&mut self, desk: &Desk, first: u64, quota: u64) -> Result<Swept, Refusal> {
         let (words, mut out) = (desk.words(), [0; 2]);
         let number = ffi::sweep(self.data, self.undo, self.status, words, first, quota, &mut out);

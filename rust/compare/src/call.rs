@@ -53,8 +53,8 @@ impl Call {
 pub struct Answer {
     /// The refusal number; 0 is done.
     pub code: u32,
-    /// The values, unused ones 0: begin the number; insert the row; sweep next row and removed; read
-    /// the count, the area of the body (1 data, 2 undo) and its byte offset there.
+    /// The values, unused ones 0: begin the number; insert the row; sweep next row and removed;
+    /// read the count, the area of the body (1 data, 2 undo) and its byte offset there.
     pub values: [u64; 3],
 }
 

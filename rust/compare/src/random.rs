@@ -45,8 +45,8 @@ impl Random {
     }
 }
 
-/// Runs a driver's rounds, or the one that `CHIRIMOK_SEED` names, and prints the seed of a round that
-/// fails.
+/// Runs a driver's rounds, or the one that `CHIRIMOK_SEED` names, and prints the seed of a round
+/// that fails.
 pub fn for_each_seed(rounds: u64, mut round: impl FnMut(u64)) {
     let seeds = match named_seed() {
         Some(seed) => seed..seed + 1,

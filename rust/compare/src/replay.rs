@@ -168,8 +168,8 @@ impl Model {
     }
 }
 
-/// Runs random histories with one engine and fails where a reading, a conflict, a count or the number
-/// of versions held is not what the table says.
+/// Runs random histories with one engine and fails where a reading, a conflict, a count or the
+/// number of versions held is not what the table says.
 pub fn agree_with_table(engine: &dyn Engine, rounds: u64) {
     let mut tally = Tally::default();
     for_each_seed(rounds, |seed| run(engine, seed, &mut tally));

@@ -41,8 +41,8 @@ fn places_sound(places: &[u64], limit: u64) -> bool {
         && all_zero(unused)
 }
 
-/// One test at the end instead of one for each place, eight places a step: most places of a desk are
-/// unused, and every call looks at all of them.
+/// One test at the end instead of one for each place, eight places a step: most places of a desk
+/// are unused, and every call looks at all of them.
 #[inline]
 fn all_zero(places: &[u64]) -> bool {
     let (eights, rest) = places.as_chunks::<8>();
@@ -109,7 +109,8 @@ impl Desk {
             && all_zero(unused.as_flattened())
     }
 
-    /// The open session `number`, or refusal 4. Number 0 is never open, though unused places hold it.
+    /// The open session `number`, or refusal 4. Number 0 is never open, though unused places hold
+    /// it.
     #[inline]
     pub fn session(&self, number: u64) -> Result<Session<'_>, Refusal> {
         let place = self.numbers.iter().position(|&open| open == number && open != 0);

@@ -8,8 +8,8 @@ use crate::slot::Meta;
 use crate::status::committed;
 
 impl Session<'_> {
-    /// "S sees X when X is not 0, is below S's number, is not in S's list and has status 01." Number
-    /// 0 is never committed, so the list's unused places do no harm.
+    /// "S sees X when X is not 0, is below S's number, is not in S's list and has status 01."
+    /// Number 0 is never committed, so the list's unused places do no harm.
     #[inline]
     fn sees(&self, status: &[u8], number: u64) -> bool {
         number < self.number && committed(status, number) && !self.list.contains(&number)

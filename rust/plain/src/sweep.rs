@@ -67,8 +67,8 @@ enum Cut {
     AtSlot,
 }
 
-/// The cut before "the first version whose expirer is committed and below the mark", in a chain known
-/// to be unbroken.
+/// The cut before "the first version whose expirer is committed and below the mark", in a chain
+/// known to be unbroken.
 fn find_cut(data: &[u8], undo: &[u8], status: &[u8], mark: u64, row: usize) -> Option<Cut> {
     let mut cut = Cut::AtSlot;
     for version in Chain::of(data, undo, row).map_while(Result::ok) {

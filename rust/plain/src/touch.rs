@@ -35,7 +35,8 @@ fn finish_area(kind: &Kind, area: &mut [u8], touched: u64, session: Option<u64>)
     }
 }
 
-/// The same for the one page in which `at` lies. Sweeping "leaves txn_id": then there is no session.
+/// The same for the one page in which `at` lies. Sweeping "leaves txn_id": then there is no
+/// session.
 #[inline]
 pub fn finish_page(kind: &Kind, area: &mut [u8], at: usize, session: Option<u64>) {
     let start = at / PAGE * PAGE;

@@ -1,5 +1,5 @@
-//! The gauge pieces P5 to P12 and the whole run of document 01, on the ordinary Rust version. P1 to P4
-//! speak of places and stand beside the arithmetic in `status`, `entry` and `slot`.
+//! The gauge pieces P5 to P12 and the whole run of document 01, on the ordinary Rust version. P1 to
+//! P4 speak of places and stand beside the arithmetic in `status`, `entry` and `slot`.
 
 use plain::{Area, Desk, Reading, Refusal, Swept};
 

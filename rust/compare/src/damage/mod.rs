@@ -1,9 +1,9 @@
-//! Stores damaged on purpose: each kind of break that document 01 names, each header field, each rule
-//! of a sound desk, each wrong length.
+//! Stores damaged on purpose: each kind of break that document 01 names, each header field, each
+//! rule of a sound desk, each wrong length.
 //!
-//! A [`Damage`] spoils a working store in one way. Both engines then get every call at copies of it.
-//! Each kind lists the answers that it must have brought about in all rounds together, so that a kind
-//! which spoils nothing is noticed.
+//! A [`Damage`] spoils a working store in one way. Both engines then get every call at copies of
+//! it. Each kind lists the answers that it must have brought about in all rounds together, so that
+//! a kind which spoils nothing is noticed.
 
 mod chains;
 mod desks;
