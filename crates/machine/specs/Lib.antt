@@ -1,0 +1,4 @@
+pub mod Table
+pub mod Lines
+pub mod Machine
+pub mod Runs
