@@ -1,8 +1,10 @@
 // Feeds a script from one open file to the store, and its answers to another, as they come ("01, The script and one whole run"). It holds no
 // rule: which call a line is, what it does and what it answers is `script`'s.
 use script::Station;
-ghost use Prim.Native.Nat.{_≤_};
-ghost use lib.ListN.{length};
+ghost use mathlib.Core.Path.{_≡_};
+ghost use mathlib.Core.List.{_++_};
+ghost use Prim.Native.Nat.{_-_, _≤_};
+ghost use lib.ListN.{length, take, drop};
 
 // What is carried from one reading to the next: the station, how much text that was not taken stands at the front of the buffer, and
 // whether to go on.
@@ -22,6 +24,7 @@ struct Filled {
 // Moves what was not taken to the front.
 fn keep_rest(text: &mut [u8], from: usize, to: usize)
     requires { ⌜ (from ≤ to) × (to ≤ length (now text)) ⌝ }
+    ensures { λ _. ⌜ now (text .exit) ≡ take (to - from) (drop from (now (text .entry))) ++ drop (to - from) (now (text .entry)) ⌝ }
 {
     let mut i = from;
     while i < to {

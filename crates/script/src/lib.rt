@@ -1,6 +1,7 @@
 // A script run on lent areas ("01, The script and one whole run"): text in, answers out. A text may come in pieces; what one piece
 // leaves, the next goes on from.
 use desk::Desk;
+use kind::Kind;
 use line::Call;
 use line::Verb;
 use lines::Line;
@@ -65,14 +66,12 @@ impl Station {
 // "at most 3 of each"
 const MOST: u64 = 3;
 
-const PAGE: usize = 8192;
-
 // How many bytes a format line names of an area; none where it names too many pages.
 fn named(pages: u64) -> usize
     ensures { λ r. ⌜ r ≡ named·spec pages ⌝ }
 {
     if pages <= MOST {
-        pages as usize * PAGE
+        pages as usize * Kind::PAGE
     } else {
         0
     }
