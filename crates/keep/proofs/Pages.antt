@@ -61,7 +61,9 @@ abbrev pub endedAt : List ℕ → ℕ → Bool
 endedAt s i = ended (statusAt (i + 1) s)
 
 -- what the test of page p answered, as it was lent
-pub rightAt-lent : {r : Bool} (k : Kind) (s : List ℕ) (p : ℕ) → r ≡ pageRight k (p + 1) (take (p * 8192 + 8192 - p * 8192) (drop (p * 8192) s)) → rightAt k s p ≡ r
+pub rightAt-lent : {r : Bool} (k : Kind) (s : List ℕ) (p : ℕ)
+    → r ≡ pageRight k (p + 1) (take (p * 8192 + 8192 - p * 8192) (drop (p * 8192) s))
+    → rightAt k s p ≡ r
 rightAt-lent k s p h = sym (h ∙ ap (pageRight k (p + 1)) (pageAt-lent p s))
 
 -- ---- the highest number
@@ -91,4 +93,5 @@ module _ (d u s : List ℕ) where
   unfolding storeRight
   highest-storeRight e =
       let right = areaRight dataKind d && areaRight undoKind u && areaRight statusKind s in
-      leb-true (highest s) 32575 (and-true-right right (leb (highest s) 32575) (and-true-left (right && leb (highest s) 32575) (allEnded (highest s) s) e))
+      leb-true (highest s) 32575
+      (and-true-right right (leb (highest s) 32575) (and-true-left (right && leb (highest s) 32575) (allEnded (highest s) s) e))

@@ -22,6 +22,7 @@ use Rattle.answer.specs.declared.Answer.{Answer}
 use Rattle.answer.specs.Code.{codeOf}
 use Rattle.answer.proofs.Codes.{codeOf-injective}
 use Rattle.little.specs.Little.{digits, Bytes}
+use Rattle.little.proofs.AllBytes.{bytes-append}
 use Rattle.places.specs.Open.{openCount}
 use Rattle.desk.specs.declared.Desk.{Desk}
 use Rattle.desk.specs.Desk.{freshDesk, noDesk}
@@ -30,11 +31,12 @@ use Rattle.kind.specs.declared.Kind.{Kind}
 use Rattle.kind.specs.Kind.{pages, dataKind, undoKind, statusKind, lengthsOk}
 use Rattle.kind.specs.Areas.{Areas, badLength}
 use Rattle.page.specs.Header.{pageAt, txnId, fieldIn}
+use Rattle.status.specs.declared.Status.the-variants.{InWork}
 use Rattle.status.specs.Status.{statusAt}
 use Rattle.whole.specs.Whole.{checksumOf, pageRight, headerRight, sealedPage, freshPage}
 use Rattle.kind.proofs.Lengths.{Lent, AllLent, all-lent}
 use Rattle.page.proofs.Headers.{length-pageAt, bytes-pageAt, pageAt-append, pageAt-behind}
-use Rattle.whole.proofs.Rights.{Fitting, fitting-data, fitting-undo, fitting-status, length-sealedPage, statusAt-sealedPage, txnId-sealedPage, pageAt-sealedPage-same, pageAt-sealedPage-other, pageRight-sealed, length-freshPage, txnId-freshPage, pageRight-freshPage}
+use Rattle.whole.proofs.Rights.{Fitting, fitting-data, fitting-undo, fitting-status, length-sealedPage, statusAt-sealedPage, txnId-sealedPage, pageAt-sealedPage-same, pageAt-sealedPage-other, pageRight-sealed, length-freshPage, bytes-freshPage, txnId-freshPage, statusAt-freshPage, pageRight-freshPage}
 use Rattle.keep.specs.declared.Opened.{Opened}
 use Rattle.keep.specs.Whole.{freshArea, sealedArea, areaRight, highest, ended, allEnded, storeRight}
 use Rattle.keep.specs.Keep.{said, formatRefusal, formatted, formatRule, sealRefusal, sealed, sealRule, openRefusal, openRule}
@@ -50,7 +52,10 @@ said-injective r r′ e = ap₂ opened (codeOf-injective (r .answer) (r′ .answ
 pub format-once : (a : Areas) (r r′ : Opened) (x x′ : Areas) → Does (formatRule a) (said r) x → Does (formatRule a) (said r′) x′ → (r ≡ r′) × (x ≡ x′)
 format-once a r r′ x x′ p q = (said-injective r r′ (once p q .0), once p q .1)
 
-pub seal-once : (a : Areas) (d : Desk) (r r′ : Answer) (x x′ : Areas) → Does (sealRule a d) (codeOf r) x → Does (sealRule a d) (codeOf r′) x′ → (r ≡ r′) × (x ≡ x′)
+pub seal-once : (a : Areas) (d : Desk) (r r′ : Answer) (x x′ : Areas)
+    → Does (sealRule a d) (codeOf r) x
+    → Does (sealRule a d) (codeOf r′) x′
+    → (r ≡ r′) × (x ≡ x′)
 seal-once a d r r′ x x′ p q = (codeOf-injective r r′ (once p q .0), once p q .1)
 
 pub open-once : (a : Areas) (r r′ : Opened) → said r ≡ openRule a → said r′ ≡ openRule a → r ≡ r′
@@ -103,6 +108,11 @@ length-freshArea k zero = refl
 length-freshArea k (suc n) =
     omega (arith, length-append (freshArea k n) (freshPage k (suc n)), length-freshArea k n, length-freshPage k (suc n))
 
+pub bytes-freshArea : (k : Kind) (n : ℕ) → Bytes (freshArea k n)
+unfolding freshArea
+bytes-freshArea k zero = tt
+bytes-freshArea k (suc n) = bytes-append (freshArea k n) (freshPage k (suc n)) (bytes-freshArea k n) (bytes-freshPage k (suc n))
+
 pub pageAt-freshArea : (k : Kind) (n p : ℕ) → p < n → pageAt p (freshArea k n) ≡ freshPage k (p + 1)
 unfolding freshArea
 pageAt-freshArea k zero p h = absurd (omega arith)
@@ -131,12 +141,22 @@ pub highest-freshArea : (k : Kind) (n : ℕ) → 0 < n → highest (freshArea k 
 unfolding highest
 highest-freshArea k n h = ap (fieldIn txnId) (pageAt-freshArea k n 0 h) ∙ txnId-freshPage k 1
 
+-- every number is in work
+pub statusAt-freshArea : (k : Kind) (n : ℕ) → n < 32576 → statusAt n (freshArea k 1) ≡ InWork
+unfolding freshArea
+statusAt-freshArea k n h = statusAt-freshPage k 1 n h
+
 -- ---- sealed areas
 
-pub length-sealedArea : (n : ℕ) (s : List ℕ) → length (sealedArea n s) ≡ length s
+-- what sealing a page leaves as it was, sealing an area does
+pub sealedArea-keeps : {A : Type 0} (view : List ℕ → A) → ((p : ℕ) (s : List ℕ) → view (sealedPage p s) ≡ view s)
+    → (n : ℕ) (s : List ℕ) → view (sealedArea n s) ≡ view s
 unfolding sealedArea
-length-sealedArea zero s = refl
-length-sealedArea (suc n) s = length-sealedPage n (sealedArea n s) ∙ length-sealedArea n s
+sealedArea-keeps view keeps zero s = refl
+sealedArea-keeps view keeps (suc n) s = keeps n (sealedArea n s) ∙ sealedArea-keeps view keeps n s
+
+pub length-sealedArea : (n : ℕ) (s : List ℕ) → length (sealedArea n s) ≡ length s
+length-sealedArea = sealedArea-keeps length length-sealedPage
 
 -- the pages that are not sealed yet, and those that are
 pageAt-sealedArea-above : (n p : ℕ) (s : List ℕ) → n ≤ p → pageAt p (sealedArea n s) ≡ pageAt p s
@@ -164,15 +184,12 @@ pageRight-sealedArea k s p h b =
     ∙ pageRight-sealed k (p + 1) (pageAt p s) (length-pageAt p s (omega arith)) (bytes-pageAt p s b)
 
 -- sealing changes no number handed out and no status
-highest-sealedArea : (n : ℕ) (s : List ℕ) → highest (sealedArea n s) ≡ highest s
-unfolding sealedArea highest
-highest-sealedArea zero s = refl
-highest-sealedArea (suc n) s = txnId-sealedPage n 0 (sealedArea n s) ∙ highest-sealedArea n s
+pub highest-sealedArea : (n : ℕ) (s : List ℕ) → highest (sealedArea n s) ≡ highest s
+unfolding highest
+highest-sealedArea = sealedArea-keeps highest (λ p s. txnId-sealedPage p 0 s)
 
-statusAt-sealedArea : (n m : ℕ) (s : List ℕ) → statusAt m (sealedArea n s) ≡ statusAt m s
-unfolding sealedArea
-statusAt-sealedArea zero m s = refl
-statusAt-sealedArea (suc n) m s = statusAt-sealedPage m n (sealedArea n s) ∙ statusAt-sealedArea n m s
+pub statusAt-sealedArea : (n m : ℕ) (s : List ℕ) → statusAt m (sealedArea n s) ≡ statusAt m s
+statusAt-sealedArea n m s = sealedArea-keeps (statusAt m) (statusAt-sealedPage m) n s
 
 allEnded-sealedArea : (n m : ℕ) (s : List ℕ) → allEnded m (sealedArea n s) ≡ allEnded m s
 unfolding allEnded
@@ -211,13 +228,21 @@ length-refreshed k most s l = length-freshArea k (pages s) ∙ sym (l .whole)
 
 pub open-format : (a : Areas) → badLength a ≡ false → openRule (formatted a) ≡ (0, freshDesk 1)
 unfolding formatted allEnded allBelow
-open-format a h = by (all-lent (length (a .«data»)) (length (a .undo)) (length (a .status)) (not-false (lengthsOk (length (a .«data»)) (length (a .undo)) (length (a .status))) h))
+open-format a h =
+    by
+    (all-lent (length (a .«data»)) (length (a .undo)) (length (a .status))
+    (not-false (lengthsOk (length (a .«data»)) (length (a .undo)) (length (a .status))) h))
   where
     by : AllLent (length (a .«data»)) (length (a .undo)) (length (a .status)) → openRule (formatted a) ≡ (0, freshDesk 1)
     by l =
         let top : highest (freshArea statusKind (pages (a .status))) ≡ 0 = highest-freshArea statusKind (pages (a .status)) (l .inStatus .some) in
         open-accepts (formatted a)
-        (rw (length-refreshed dataKind 64 (a .«data») (l .inData), length-refreshed undoKind 64 (a .undo) (l .inUndo), length-refreshed statusKind 1 (a .status) (l .inStatus)) h)
+        (rw (
+          length-refreshed dataKind 64 (a .«data») (l .inData),
+          length-refreshed undoKind 64 (a .undo) (l .inUndo),
+          length-refreshed statusKind 1 (a .status) (l .inStatus),
+        )
+        h)
         (areaRight-freshArea dataKind (pages (a .«data»)) fitting-data (omega (arith, l .inData .few)))
         (areaRight-freshArea undoKind (pages (a .undo)) fitting-undo (omega (arith, l .inUndo .few)))
         (areaRight-freshArea statusKind (pages (a .status)) fitting-status (omega (arith, l .inStatus .few)))
@@ -237,7 +262,12 @@ unfolding sealed
 open-seal a l d u s t e =
     let top : highest (sealedArea (pages (a .status)) (a .status)) ≡ highest (a .status) = highest-sealedArea (pages (a .status)) (a .status) in
     open-accepts (sealed a)
-    (rw (length-sealedArea (pages (a .«data»)) (a .«data»), length-sealedArea (pages (a .undo)) (a .undo), length-sealedArea (pages (a .status)) (a .status)) l)
+    (rw (
+      length-sealedArea (pages (a .«data»)) (a .«data»),
+      length-sealedArea (pages (a .undo)) (a .undo),
+      length-sealedArea (pages (a .status)) (a .status),
+    )
+    l)
     (areaRight-sealedArea dataKind (a .«data») d)
     (areaRight-sealedArea undoKind (a .undo) u)
     (areaRight-sealedArea statusKind (a .status) s)

@@ -23,20 +23,20 @@ answers c a = record { call = c; answer = a }
 
 line-by-line : List Line
 line-by-line =
-    answers (format 1 1) (done 0)
-    ∷ answers Begin (done 1)
-    ∷ answers (Insert 1 Z) (done 0)
-    ∷ answers (Commit 1) (done 0)
-    ∷ answers Begin (done 2)
-    ∷ answers Begin (done 3)
-    ∷ answers (Update 2 0 F) (done 0)
-    ∷ answers (read 3 0) (done 2)
+    answers (format [] [] []) (done 0 0 [])
+    ∷ answers Begin (done 1 0 [])
+    ∷ answers (Insert 1 Z) (done 0 0 [])
+    ∷ answers (Commit 1) (done 0 0 [])
+    ∷ answers Begin (done 2 0 [])
+    ∷ answers Begin (done 3 0 [])
+    ∷ answers (Update 2 0 F) (done 0 0 [])
+    ∷ answers (read 3 0) (done 2 0 [])
     ∷ answers (Delete 3 0) (refused 9)
-    ∷ answers (Commit 2) (done 0)
+    ∷ answers (Commit 2) (done 0 0 [])
     ∷ []
 
 rest : List Line
-rest = answers (Delete 3 0) (refused 10) ∷ answers (Sweep 0 127) (done 127) ∷ answers (Commit 3) (done 0) ∷ answers Begin (done 4) ∷ []
+rest = answers (Delete 3 0) (refused 10) ∷ answers (Sweep 0 127) (done 127 0 []) ∷ answers (Commit 3) (done 0 0 []) ∷ answers Begin (done 4 0 []) ∷ []
 
 -- session 3 reads Z, though 2 has committed F; session 4 reads F
 told-run : (plainTable (historyOf line-by-line) 3 0 ≡ some Z) × (plainTable (historyOf (line-by-line ++ rest)) 4 0 ≡ some F)
@@ -44,8 +44,8 @@ unfolding answers line-by-line rest Z F
 told-run = (refl, refl)
 
 -- what a withdrawn session wrote counts for nothing
-told-withdrawn : plainTable (historyOf (answers Begin (done 1) ∷ answers (Insert 1 Z) (done 0) ∷ answers (Withdraw 1)
-    (done 0) ∷ answers Begin (done 2) ∷ [])) 2 0 ≡ none
+told-withdrawn : plainTable (historyOf (answers Begin (done 1 0 []) ∷ answers (Insert 1 Z) (done 0 0 []) ∷ answers (Withdraw 1)
+    (done 0 0 []) ∷ answers Begin (done 2 0 []) ∷ [])) 2 0 ≡ none
 unfolding answers Z
 told-withdrawn = refl
 

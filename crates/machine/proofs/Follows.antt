@@ -1,23 +1,25 @@
--- From the machine to any store that follows it: what a store has to show of each line, and what it gets for a whole run. A line
--- follows the machine where it leads from what a history reaches to what that history with the line reaches. Assumes nothing.
+-- From the machine to any store that follows it: what a store has to show of each line, and that the line then leads from what a history
+-- reaches to what that history with the line reaches. Assumes nothing.
 use Prim.Native.Nat.{ℕ, zero, suc, _+_, _<_}
 use mathlib.Core.Path.{_≡_, refl, ap, sym, subst, _∙_}
 use mathlib.Core.Bool.{Bool, true, false, _&&_, cond}
-use mathlib.Core.Option.{some}
 use mathlib.Core.List.{List, [], _∷_}
 use native.Mathlib.Omega.{arith}
 use lib.Dec.{eqb, leb, ltb}
 use borrow.Author.Tests.{eqb-true, eqb-false, eq-eqb, leb-true, leb-false, le-leb, lt-leb, ltb-true, ltb-false, lt-ltb, le-ltb}
-use Rattle.machine.specs.Table.{Body, History, began, plainTable}
-use Rattle.machine.specs.Lines.{Call, Answer, refused, done, Line, heard, historyFrom, historyOf, format, opens, seal, read, begin as Begin, next as Next, insert as Insert, update as Update, delete as Delete, commit as Commit, withdraw as Withdraw, sweep as Sweep}
-use Rattle.machine.specs.Machine.{InWork, Session, Machine, empty, reads, find, swept, begin, next, insert, update, delete, commit, withdraw, sweep, accept, effect}
-use Rattle.machine.specs.Runs.{start, after, Reach}
+use Rattle.machine.specs.Table.{History, began}
+use Rattle.machine.specs.Lines.{Call, Answer, refused, done, told, heard, isFormat, format, opens, seal, read, begin as Begin, next as Next, insert as Insert, update as Update, delete as Delete, commit as Commit, withdraw as Withdraw, sweep as Sweep}
+use Rattle.machine.specs.Machine.{InWork, Session, Machine, empty, swept, Step, begin, next, insert, update, delete, commit, withdraw, sweep, accept, effect}
+use Rattle.machine.specs.Runs.{From, start, after, Reach}
+use Rattle.machine.proofs.Basics.{true-false}
 use Rattle.machine.proofs.Desks.{Found}
 use Rattle.machine.proofs.Invariant.{Inv}
-use Rattle.machine.proofs.Readings.{reach-both, reading}
+use Rattle.machine.proofs.Readings.{reach-both}
 
-abbrev pub Follows : Machine → Call → Answer → Machine → Type 0
-Follows m c a m′ = (h : History) → Reach m h → Reach m′ (heard h c a)
+-- what is reached from where one is, and then from there
+pub from-then : {m₀ m₁ m₂ : Machine} {h₀ h₁ h₂ : History} → From m₀ h₀ m₁ h₁ → From m₁ h₁ m₂ h₂ → From m₀ h₀ m₂ h₂
+from-then x start = x
+from-then x (after y c e) = after (from-then x y) c e
 
 -- two machines that agree at every place are equal
 pub machine-ext : (m m′ : Machine) → m .next ≡ m′ .next → ((x : ℕ) → m .status x ≡ m′ .status x) → m .desk ≡ m′ .desk
@@ -25,58 +27,16 @@ pub machine-ext : (m m′ : Machine) → m .next ≡ m′ .next → ((x : ℕ) �
     → m ≡ m′
 machine-ext m m′ a b c d = λ i. record { next = a i; status = λ x. b x i; desk = c i; rows = λ r. d r i }
 
--- ---- the twelve calls, where they are done, and a refusal
-
-module _ (m : Machine) where
-  pub follow-refused : (c : Call) (k : ℕ) → Follows m c (refused k) m
-  follow-refused c k h x = x
-
-  pub follow-format : (d u a : ℕ) → Follows m (format d u) (done a) empty
-  follow-format d u a h x = start
-
-  pub follow-open : (a : ℕ) → Follows m opens (done a) m
-  follow-open a h x = x
-
-  pub follow-seal : (a : ℕ) → Follows m seal (done a) m
-  follow-seal a h x = x
-
-  pub follow-read : (n r a : ℕ) → Follows m (read n r) (done a) m
-  follow-read n r a h x = x
-
-  pub follow-begin : (a : ℕ) → a ≡ m .next → Follows m Begin (done a) (effect m begin)
-  follow-begin a e h x = subst (λ (k : ℕ). Reach (effect m begin) (began k ∷ h)) (sym e) (after x begin refl)
-
-  pub follow-next : (n a : ℕ) → accept m (next n) ≡ true → Follows m (Next n) (done a) (effect m (next n))
-  follow-next n a e h x = after x (next n) e
-
-  -- the row is the one answered
-  pub follow-insert : (n a : ℕ) (b : Body) → accept m (insert n a b) ≡ true → Follows m (Insert n b) (done a) (effect m (insert n a b))
-  follow-insert n a b e h x = after x (insert n a b) e
-
-  pub follow-update : (n r a : ℕ) (b : Body) → accept m (update n r b) ≡ true → Follows m (Update n r b) (done a) (effect m (update n r b))
-  follow-update n r a b e h x = after x (update n r b) e
-
-  pub follow-delete : (n r a : ℕ) → accept m (delete n r) ≡ true → Follows m (Delete n r) (done a) (effect m (delete n r))
-  follow-delete n r a e h x = after x (delete n r) e
-
-  pub follow-commit : (n a : ℕ) → accept m (commit n) ≡ true → Follows m (Commit n) (done a) (effect m (commit n))
-  follow-commit n a e h x = after x (commit n) e
-
-  pub follow-withdraw : (n a : ℕ) → accept m (withdraw n) ≡ true → Follows m (Withdraw n) (done a) (effect m (withdraw n))
-  follow-withdraw n a e h x = after x (withdraw n) e
-
 -- ---- a sweep of n rows from r on is one step for each
 
 abbrev pub sweeps : ℕ → ℕ → Machine → Machine
 sweeps r zero m = m
 sweeps r (suc n) m = sweeps (suc r) n (effect m (sweep r))
 
-reach-sweeps : (n r : ℕ) (m : Machine) (h : History) → Reach m h → Reach (sweeps r n m) h
-reach-sweeps zero r m h x = x
-reach-sweeps (suc n) r m h x = reach-sweeps n (suc r) (effect m (sweep r)) h (after x (sweep r) refl)
-
-pub follow-sweep : (m : Machine) (r quota n a : ℕ) → Follows m (Sweep r quota) (done a) (sweeps r n m)
-follow-sweep m r quota n a h x = reach-sweeps n r m h x
+-- only the rows change
+pub sweeps-rest : (n r : ℕ) (m : Machine) → (sweeps r n m .next ≡ m .next) × ((x : ℕ) → sweeps r n m .status x ≡ m .status x) × (sweeps r n m .desk ≡ m .desk)
+sweeps-rest zero r m = (refl, λ x. refl, refl)
+sweeps-rest (suc n) r m = sweeps-rest n (suc r) (effect m (sweep r))
 
 -- a row among them is swept, with the mark of the first; all others stay
 pub sweeps-rows : (n r : ℕ) (m : Machine) (q : ℕ) → sweeps r n m .rows q ≡ cond (leb r q && ltb q (r + n)) (swept m q) (m .rows q)
@@ -102,30 +62,83 @@ sweeps-rows (suc n) r m q = sweeps-rows n (suc r) (effect m (sweep r)) q ∙ go 
     go false e false f c g =
         rw (f, e, lt-leb r q (omega (arith, leb-false (suc r) q f, eqb-false q r e)))
 
--- ---- a whole run
+-- ---- what a line did
 
-module _ (W : Type 0) (seenAs : W → Machine) (Good : W → Type 0) (go : W → Call → W) (says : W → Call → Answer)
-    (keeps : (w : W) (c : Call) → Good w → Good (go w c))
-    (follows : (w : W) (c : Call) → Good w → Follows (seenAs w) c (says w c) (seenAs (go w c))) where
-  -- the store after these calls, and what the auditor has then
-  abbrev pub afterCalls : W → List Call → W
-  afterCalls w [] = w
-  afterCalls w (c ∷ cs) = afterCalls (go w c) cs
+-- the machine may take the step, and it leads to m′
+abbrev pub Took : Machine → Step → Machine → Type 0
+Took m c m′ = (accept m c ≡ true) × (effect m c ≡ m′)
 
-  abbrev pub linesOf : W → List Call → List Line
-  linesOf w [] = []
-  linesOf w (c ∷ cs) = record { call = c; answer = says w c } ∷ linesOf (go w c) cs
+-- a call that was done, with the first number of its answer: an insert at the row answered, a sweep as one step for each of n rows; open,
+-- seal and read do nothing to the machine
+abbrev pub DidCall : Machine → Call → ℕ → Machine → Type 0
+DidCall m (format d u s) a m′ = empty ≡ m′
+DidCall m opens a m′ = m ≡ m′
+DidCall m seal a m′ = m ≡ m′
+DidCall m Begin a m′ = (a ≡ m .next) × (effect m begin ≡ m′)
+DidCall m (Next n) a m′ = Took m (next n) m′
+DidCall m (Insert n y) a m′ = Took m (insert n a y) m′
+DidCall m (Update n r y) a m′ = Took m (update n r y) m′
+DidCall m (Delete n r) a m′ = Took m (delete n r) m′
+DidCall m (read n r) a m′ = m ≡ m′
+DidCall m (Commit n) a m′ = Took m (commit n) m′
+DidCall m (Withdraw n) a m′ = Took m (withdraw n) m′
+DidCall m (Sweep r quota) a m′ = (n : ℕ) × (sweeps r n m ≡ m′)
 
-  pub reach-calls : (cs : List Call) (w : W) (h : History) → Good w → Reach (seenAs w) h
-      → Reach (seenAs (afterCalls w cs)) (historyFrom h (linesOf w cs))
-  reach-calls [] w h g x = x
-  reach-calls (c ∷ cs) w h g x = reach-calls cs (go w c) (heard h c (says w c)) (keeps w c g) (follows w c g h x)
+-- a refused call did nothing
+abbrev pub Did : Machine → Call → Answer → Machine → Type 0
+Did m c (refused k) m′ = m ≡ m′
+Did m c (done a b y) m′ = DidCall m c a m′
 
-  -- DEMAND 3 for the store: after any calls from a format, an open session reads what the lines alone say
-  pub store-reading : (w : W) → Good w → seenAs w ≡ empty → (cs : List Call) (n r : ℕ) (s : Session)
-      → find n (seenAs (afterCalls w cs) .desk) ≡ some s
-      → reads (seenAs (afterCalls w cs)) s r ≡ plainTable (historyOf (linesOf w cs)) n r
-  store-reading w g e cs n r s f = reading (reach-calls cs w [] g (subst (λ (y : Machine). Reach y []) (sym e) start)) n r s f
+-- ---- so it leads from what a history reaches to what that history with the line reaches
+
+to-where : {m m₁ m₂ : Machine} {h h′ : History} → m₁ ≡ m₂ → From m h m₁ h′ → From m h m₂ h′
+to-where {m} {m₁} {m₂} {h} {h′} e x = subst (λ (z : Machine). From m h z h′) e x
+
+from-sweeps : (n r : ℕ) (m₀ m : Machine) (h : History) → From m₀ h m h → From m₀ h (sweeps r n m) h
+from-sweeps zero r m₀ m h x = x
+from-sweeps (suc n) r m₀ m h x = from-sweeps n (suc r) m₀ (effect m (sweep r)) h (after x (sweep r) refl)
+
+-- a call that is no format leads on
+leads-call : (m : Machine) (c : Call) (a : ℕ) (m′ : Machine) → isFormat c ≡ false → DidCall m c a m′ → (h : History) → From m h m′ (told h c a)
+leads-call m (format d u s) a m′ f e h = true-false true refl f
+leads-call m opens a m′ f e h = to-where e start
+leads-call m seal a m′ f e h = to-where e start
+leads-call m Begin a m′ f e h = to-where (e .1) (subst (λ (k : ℕ). From m h (effect m begin) (began k ∷ h)) (sym (e .0)) (after start begin refl))
+leads-call m (Next n) a m′ f e h = to-where (e .1) (after start (next n) (e .0))
+leads-call m (Insert n y) a m′ f e h = to-where (e .1) (after start (insert n a y) (e .0))
+leads-call m (Update n r y) a m′ f e h = to-where (e .1) (after start (update n r y) (e .0))
+leads-call m (Delete n r) a m′ f e h = to-where (e .1) (after start (delete n r) (e .0))
+leads-call m (read n r) a m′ f e h = to-where e start
+leads-call m (Commit n) a m′ f e h = to-where (e .1) (after start (commit n) (e .0))
+leads-call m (Withdraw n) a m′ f e h = to-where (e .1) (after start (withdraw n) (e .0))
+leads-call m (Sweep r quota) a m′ f (n, e) h = to-where e (from-sweeps n r m m h start)
+
+pub did-leads : (m : Machine) (c : Call) (a : Answer) (m′ : Machine) → isFormat c ≡ false → Did m c a m′ → (h : History) → From m h m′ (heard h c a)
+did-leads m c (refused k) m′ f e h = to-where e start
+did-leads m c (done a b y) m′ f e h = leads-call m c a m′ f e h
+
+-- and an accepted format starts anew
+pub did-reaches : (m : Machine) (c : Call) (a : Answer) (m′ : Machine) → Did m c a m′ → (h : History) → Reach m h → Reach m′ (heard h c a)
+did-reaches m c (refused k) m′ e h x = subst (λ (z : Machine). Reach z h) e x
+did-reaches m c (done a b y) m′ e h x = go (isFormat c) refl
+  where
+    format-only : (c : Call) → isFormat c ≡ true → DidCall m c a m′ → Reach m′ (told h c a)
+    format-only (format d u s) f e = subst (λ (z : Machine). Reach z []) e start
+    format-only opens f e = true-false false f refl
+    format-only seal f e = true-false false f refl
+    format-only Begin f e = true-false false f refl
+    format-only (Next n) f e = true-false false f refl
+    format-only (Insert n y) f e = true-false false f refl
+    format-only (Update n r y) f e = true-false false f refl
+    format-only (Delete n r) f e = true-false false f refl
+    format-only (read n r) f e = true-false false f refl
+    format-only (Commit n) f e = true-false false f refl
+    format-only (Withdraw n) f e = true-false false f refl
+    format-only (Sweep r q) f e = true-false false f refl
+
+    go : (b : Bool) → isFormat c ≡ b → Reach m′ (told h c a)
+    go true f = format-only c f e
+    go false f = from-then x (leads-call m c a m′ f e h)
 
 -- ---- for open
 

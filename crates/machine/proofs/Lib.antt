@@ -20,3 +20,6 @@ pub mod Follows
 pub mod Orders
 pub mod Ordered
 pub mod Numbers
+pub mod Opens
+pub mod Elsewhere
+pub mod Dids

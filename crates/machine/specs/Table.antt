@@ -1,7 +1,7 @@
 -- What a history alone says that a session reads: the plain table of demand 3. There is no page here, no version, no mark and no
 -- rule of sight; whoever kept a record of the accepted calls can work it out on paper. Assumes nothing.
 use Prim.Native.Nat.{ℕ, suc}
-use mathlib.Core.Bool.{Bool, false, _&&_, _||_, cond}
+use mathlib.Core.Bool.{Bool, false, not, _&&_, _||_, cond}
 use mathlib.Core.Option.{Option, none}
 use mathlib.Core.List.{List, [], _∷_, _++_}
 use lib.Dec.{eqb, ltb}
@@ -134,6 +134,15 @@ numberTable h = play bare (writesOfAll h (ascending (commits h)))
 abbrev pub member : ℕ → List ℕ → Bool
 member x [] = false
 member x (y ∷ l) = eqb x y || member x l
+
+-- S is open: it began, and has neither committed nor been withdrawn since
+abbrev pub openIn : History → ℕ → Bool
+openIn [] s = false
+openIn (began n ∷ h) s = eqb s n || openIn h s
+openIn (moved n ∷ h) s = openIn h s
+openIn (wrote n r b ∷ h) s = openIn h s
+openIn (committed n ∷ h) s = not (eqb s n) && openIn h s
+openIn (withdrew n ∷ h) s = not (eqb s n) && openIn h s
 
 -- X committed before S began
 abbrev pub committedBefore : History → ℕ → ℕ → Bool

@@ -27,16 +27,16 @@ use Rattle.outcomes.proofs.Undones.{ownEnded, undoneRow-treated, undone
 
 -- ---- withdraw
 
-module _ (n k : ℕ) (number : 0 < n) where
-  undone-turns : Turns (undoneRow n k) (undoneFrom n k)
-  unfolding undoneFrom
-  undone-turns =
-      record {
-        none = λ r p. refl;
-        next = λ r m p. refl;
-        treats = λ r p h. undoneRow-treated n k r (p .«data») (p .undo) h;
-      }
+pub undone-turns : (n k : ℕ) → Turns (undoneRow n k) (undoneFrom n k)
+unfolding undoneFrom
+undone-turns n k =
+    record {
+      none = λ r p. refl;
+      next = λ r m p. refl;
+      treats = λ r p h. undoneRow-treated n k r (p .«data») (p .undo) h;
+    }
 
+module _ (n k : ℕ) (number : 0 < n) where
   -- one row, its chain whole
   module _ (t : ℕ) (d u : List ℕ) (h : RowIn t d u) (whole : chainOf d u t .whole ≡ true) where
     abbrev after : Chain
@@ -89,7 +89,7 @@ module _ (n k : ℕ) (number : 0 < n) where
       → chainOf (undone n k d u .«data») (undone n k d u .undo) t ≡ undoneChain n k t (chainOf d u t)
   unfolding undone
   withdraw-chain d u h t inside whole =
-      rows-own (undoneRow n k) (undoneFrom n k) undone-turns t (λ (c : Chain). c .whole ≡ true) (undoneChain n k t)
+      rows-own (undoneRow n k) (undoneFrom n k) (undone-turns n k) t (λ (c : Chain). c .whole ≡ true) (undoneChain n k t)
       (λ q row. row-undone t (q .«data») (q .undo) row)
       (rows d)
       0
@@ -102,7 +102,7 @@ module _ (n k : ℕ) (number : 0 < n) where
 -- ---- sweep
 
 module _ (m : ℕ) (s : List ℕ) where
-  swept-turns : Turns (sweptRow m s) (sweptFrom m s)
+  pub swept-turns : Turns (sweptRow m s) (sweptFrom m s)
   unfolding sweptFrom
   swept-turns =
       record {

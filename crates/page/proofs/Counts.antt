@@ -29,7 +29,10 @@ use Rattle.records.proofs.Entries.{entries-lie, entryAt-same, copyBodyAt-same}
 -- ---- counting
 
 -- the store of a count: n is what was counted, y what the area then is
-pub counted-store : {y : List ℕ} (k : Kind) (p : ℕ) (s : List ℕ) (n : ℕ) → n ≡ itemsIn k (take (p * 8192 + 8192 - p * 8192) (drop (p * 8192) s)) → y ≡ sets s (p * 8192 + 38) (digits 2 n) → y ≡ counted k p s
+pub counted-store : {y : List ℕ} (k : Kind) (p : ℕ) (s : List ℕ) (n : ℕ)
+    → n ≡ itemsIn k (take (p * 8192 + 8192 - p * 8192) (drop (p * 8192) s))
+    → y ≡ sets s (p * 8192 + 38) (digits 2 n)
+    → y ≡ counted k p s
 unfolding counted putField
 counted-store k p s n h q = q ∙ ap (λ (v : ℕ). sets s (p * 8192 + 38) (digits 2 v)) (h ∙ ap (itemsIn k) (pageAt-lent p s))
 
@@ -55,14 +58,16 @@ unfolding entryAt entryOf
 inUse-entry p i u h = inUse-recordAt entries-lie (omega arith) p i u h
 
 -- "its slots with create not 0"
-pub itemsIn-data : (p : ℕ) (s : List ℕ) → itemsIn dataKind (pageAt p s) ≡ countBelow (λ (i : ℕ). not (eqb (slotAt (numberOf 127 p i) s .create) 0)) 127
+pub itemsIn-data : (p : ℕ) (s : List ℕ)
+    → itemsIn dataKind (pageAt p s) ≡ countBelow (λ (i : ℕ). not (eqb (slotAt (numberOf 127 p i) s .create) 0)) 127
 unfolding itemsIn
 itemsIn-data p s =
     count-agree (inUse 64 (pageAt p s)) (λ (i : ℕ). not (eqb (slotAt (numberOf 127 p i) s .create) 0)) 127
     (λ i h. inUse-slot p i s h)
 
 -- "its entries with writer not 0"
-pub itemsIn-undo : (p : ℕ) (u : List ℕ) → itemsIn undoKind (pageAt p u) ≡ countBelow (λ (i : ℕ). not (eqb (entryAt (numberOf 101 p i) u .writer) 0)) 101
+pub itemsIn-undo : (p : ℕ) (u : List ℕ)
+    → itemsIn undoKind (pageAt p u) ≡ countBelow (λ (i : ℕ). not (eqb (entryAt (numberOf 101 p i) u .writer) 0)) 101
 unfolding itemsIn
 itemsIn-undo p u =
     count-agree (inUse 80 (pageAt p u)) (λ (i : ℕ). not (eqb (entryAt (numberOf 101 p i) u .writer) 0)) 101

@@ -1,21 +1,23 @@
 -- Laws of the pages of an area and of header fields: what a field stored into page p leaves of the pages and statuses of an area,
--- and the offsets of the header's fields. Assumes nothing.
-use mathlib.Core.Path.{_≡_, refl, ap}
+-- what a status put leaves of the headers, and the offsets of the header's fields. Assumes nothing.
+use mathlib.Core.Path.{_≡_, refl, sym, ap, _∙_}
 use mathlib.Core.Logic.{⊎-elim}
 use mathlib.Core.List.{List, [], _∷_, _++_}
-use Prim.Native.Nat.{ℕ, zero, suc, _+_, _*_, _-_, _/_, _≤_, _<_}
+use Prim.Native.Nat.{ℕ, zero, suc, _+_, _*_, _-_, _/_, _^_, _≤_, _<_}
+use native.Mathlib.Nat.{zero-add}
 use native.Mathlib.Omega.{arith}
-use lib.ListN.{length, take, drop}
+use lib.ListN.{length, take, drop, getD}
 use lib.Seq.{sets, length-sets}
 use Rattle.ground.proofs.Ranges.{lt-or-le}
 use Rattle.little.specs.Little.{little, digits, part, Bytes}
 use Rattle.little.proofs.Digits.{length-digits}
-use Rattle.little.proofs.Parts.{length-part, part-part, part-append, part-behind, part-sets-below, part-sets-above, part-sets-inside, getD-sets-below, getD-sets-above}
+use Rattle.little.proofs.Parts.{length-part, part-part, part-append, part-behind, part-sets-below, part-sets-above, part-sets-inside, little-sets, getD-sets-below, getD-sets-above}
 use Rattle.little.proofs.Fields.{offset}
 use Rattle.little.proofs.AllBytes.{bytes-part, bytes-sets, bytes-digits}
 use Rattle.kind.specs.declared.Kind.{Kind}
 use Rattle.kind.specs.Kind.{pageSize}
-use Rattle.status.specs.Status.{statusPlace, bitsIn, statusOf, statusAt}
+use Rattle.status.specs.declared.Status.{Status}
+use Rattle.status.specs.Status.{statusPlace, bitsIn, putBitsIn, bitsOf, statusOf, statusAt, putStatus}
 use Rattle.page.specs.Header.{header, pageAt, fieldIn, putField}
 
 -- ---- "Header, 48 bytes, offset then size": the fields of a header begin where the paper says
@@ -91,3 +93,41 @@ statusAt-putField f n p v s h =
 pub fieldIn-pageAt : (f : ℕ × ℕ) (p : ℕ) (s : List ℕ) → f .0 + f .1 ≤ 8192 → fieldIn f (pageAt p s) ≡ little (part (p * 8192 + f .0) (f .1) s)
 unfolding pageAt
 fieldIn-pageAt f p s h = ap little (part-part (f .0) (f .1) (p * 8192) 8192 s h)
+
+-- and is read back
+pub fieldIn-putField : (f : ℕ × ℕ) (p v : ℕ) (s : List ℕ) → f .0 + f .1 ≤ 8192 → v < 256 ^ f .1 → p * 8192 + f .0 + f .1 ≤ length s
+    → fieldIn f (pageAt p (putField f p v s)) ≡ v
+unfolding putField
+fieldIn-putField f p v s room fits h = fieldIn-pageAt f p (putField f p v s) room ∙ little-sets s (p * 8192 + f .0) (f .1) v fits h
+
+-- ---- the header of a page, its first 48 bytes
+
+-- a field of it is what these bytes say
+pub fieldIn-header : (f : ℕ × ℕ) (x y : List ℕ) → f .0 + f .1 ≤ 48 → part 0 48 y ≡ part 0 48 x → fieldIn f y ≡ fieldIn f x
+fieldIn-header f x y h same = sym (front y) ∙ ap (fieldIn f) same ∙ front x
+  where
+    front : (page : List ℕ) → fieldIn f (part 0 48 page) ≡ fieldIn f page
+    front page = ap little (part-part (f .0) (f .1) 0 48 page h ∙ ap (λ (at : ℕ). part at (f .1) page) (zero-add (f .0)))
+
+-- those of page p
+pub header-at : (p : ℕ) (s : List ℕ) → part 0 48 (pageAt p s) ≡ part (p * 8192 + 0) 48 s
+unfolding pageAt
+header-at p s = part-part 0 48 (p * 8192) 8192 s (omega arith)
+
+-- a status is no byte of any header
+pub header-putStatus : (p n : ℕ) (v : Status) (s : List ℕ) → part 0 48 (pageAt p (putStatus n v s)) ≡ part 0 48 (pageAt p s)
+unfolding putStatus
+header-putStatus p n v s =
+    header-at p (putStatus n v s)
+    ∙ ⊎-elim
+    (λ (l : n / 32576 < p). part-sets-above (p * 8192 + 0) 48 s (statusPlace pageSize n) (byte ∷ []) (omega arith))
+    (λ (l : p ≤ n / 32576). part-sets-below (p * 8192 + 0) 48 s (statusPlace pageSize n) (byte ∷ []) (omega arith))
+    (lt-or-le (n / 32576) p)
+    ∙ sym (header-at p s)
+  where
+    byte : ℕ
+    byte = putBitsIn n (bitsOf v) (getD s (statusPlace pageSize n) 0)
+
+pub fieldIn-putStatus : (f : ℕ × ℕ) (p n : ℕ) (v : Status) (s : List ℕ) → f .0 + f .1 ≤ 48
+    → fieldIn f (pageAt p (putStatus n v s)) ≡ fieldIn f (pageAt p s)
+fieldIn-putStatus f p n v s h = fieldIn-header f (pageAt p s) (pageAt p (putStatus n v s)) h (header-putStatus p n v s)

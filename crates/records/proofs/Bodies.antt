@@ -1,9 +1,10 @@
--- Where a body lies in its area, and how long it is, for all who cut one out of it. Assumes nothing.
+-- Where a body lies in its area, how long it is, and that it is of bytes, for all who read one. Assumes nothing.
 use mathlib.Core.Path.{_≡_, sym, ap, _∙_}
 use mathlib.Core.List.{List}
-use Prim.Native.Nat.{ℕ, _+_, _-_, _<_}
+use Prim.Native.Nat.{ℕ, _+_, _-_, _≤_, _<_}
+use native.Mathlib.Nat.{min-le-left}
 use native.Mathlib.Omega.{arith}
-use lib.ListN.{length, take, drop}
+use lib.ListN.{length, take, drop, length-take}
 use Rattle.little.specs.Little.{part, Bytes}
 use Rattle.little.proofs.Parts.{length-part, part-part}
 use Rattle.little.proofs.AllBytes.{bytes-part}
@@ -43,7 +44,24 @@ unfolding copyBodyAt
 length-copyBodyAt e u h =
     length-part 48 32 (entryBytes e u) (omega (arith, length-recordAt entries-lie e u (entry-inside e u h)))
 
--- and all of them are bytes
+-- and never longer, wherever it is read
+part-short : (at w : ℕ) (s : List ℕ) → length (part at w s) ≤ w
+unfolding part
+part-short at w s = omega (arith, length-take w (drop at s), min-le-left w (length (drop at s)))
+
+pub bodyAt-short : (r : ℕ) (d : List ℕ) → length (bodyAt r d) ≤ 32
+unfolding bodyAt
+bodyAt-short r d = part-short 32 32 (slotBytes r d)
+
+pub copyBodyAt-short : (e : ℕ) (u : List ℕ) → length (copyBodyAt e u) ≤ 32
+unfolding copyBodyAt
+copyBodyAt-short e u = part-short 48 32 (entryBytes e u)
+
+-- in an area of bytes it is of bytes
+pub bytes-bodyAt : (r : ℕ) (d : List ℕ) → Bytes d → Bytes (bodyAt r d)
+unfolding bodyAt recordAt
+bytes-bodyAt r d b = bytes-part 32 32 (slotBytes r d) (bytes-part (slotPlace r) 64 d b)
+
 pub bytes-copyBodyAt : (e : ℕ) (u : List ℕ) → Bytes u → Bytes (copyBodyAt e u)
 unfolding copyBodyAt recordAt
 bytes-copyBodyAt e u b = bytes-part 48 32 (entryBytes e u) (bytes-part (entryPlace e) 80 u b)

@@ -36,7 +36,9 @@ entryAt-parts : (e : ℕ) (u : List ℕ)
     }
 unfolding entryAt entryOf recordAt
 entryAt-parts e u =
-    let inner : (k w : ℕ) → k + w ≤ 80 → part k w (part (entryPlace e) 80 u) ≡ part (entryPlace e + k) w u = λ k w h. part-part k w (entryPlace e) 80 u h in
+    let inner : (k w : ℕ) → k + w ≤ 80 → part k w (part (entryPlace e) 80 u) ≡ part (entryPlace e + k) w u =
+    λ k w h. part-part k w (entryPlace e) 80 u h
+    in
     rw (inner 0 8 (omega arith), add-zero, inner 8 4 (omega arith), inner 16 64 (omega arith))
 
 -- entry e written whole: writer, row, zero, the copy's metadata, the copy's body
@@ -83,7 +85,10 @@ pub putEntry-stored : {at : ℕ} {y₁ y₂ y₃ y₄ y₅ : List ℕ} (e : ℕ)
     → y₅ ≡ putEntry e m body u
 putEntry-stored e m body u p e₁ e₂ e₃ e₄ e₅ = rw (putEntry-stores e m body u) (cc)
 
-pub putCopy-stored : {at : ℕ} {y : List ℕ} (e : ℕ) (m : Slot) (u : List ℕ) → at ≡ entryPlace e → y ≡ sets u (at + 16) (bytesOf (slotFields m)) → y ≡ putCopy e m u
+pub putCopy-stored : {at : ℕ} {y : List ℕ} (e : ℕ) (m : Slot) (u : List ℕ)
+    → at ≡ entryPlace e
+    → y ≡ sets u (at + 16) (bytesOf (slotFields m))
+    → y ≡ putCopy e m u
 unfolding putCopy
 putCopy-stored e m u p h = h ∙ ap (λ (n : ℕ). sets u (n + 16) (bytesOf (slotFields m))) p
 
@@ -133,9 +138,11 @@ entryOf-zeros = refl
 abbrev pub WithinEntry : ℕ → List ℕ → List ℕ → Type 0
 WithinEntry = Within 8192 80 101
 
-pub putEntry-within : (e : ℕ) (m : Entry) (body u : List ℕ) → length body ≡ 32 → WithinEntry e u (putEntry e m body u)
+pub putEntry-within : (e : ℕ) (m : Entry) (body u : List ℕ) → length body ≤ 32 → WithinEntry e u (putEntry e m body u)
 unfolding putEntry
-putEntry-within e m body u h = within-front entries-lie e u (bytesOf (entryFields m) ++ body) (omega (arith, length-entry m body h))
+putEntry-within e m body u h =
+    within-front entries-lie e u (bytesOf (entryFields m) ++ body)
+    (omega (arith, length-append (bytesOf (entryFields m)) body, length-entryFields m))
 
 pub putCopy-within : (e : ℕ) (m : Slot) (u : List ℕ) → WithinEntry e u (putCopy e m u)
 unfolding putCopy

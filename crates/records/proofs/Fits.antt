@@ -5,7 +5,7 @@ use mathlib.Core.List.{List, _++_}
 use Prim.Native.Nat.{ℕ, _+_, _<_, _^_}
 use native.Mathlib.Omega.{arith}
 use lib.ListN.{length, replicate}
-use lib.Seq.{length-sets}
+use lib.Seq.{sets, length-sets}
 use Rattle.little.specs.Little.{part, bytesOf, Bytes}
 use Rattle.little.proofs.Parts.{length-part}
 use Rattle.little.proofs.AllBytes.{bytes-part, bytes-sets, bytes-append, bytes-bytesOf, bytes-zeros, little-part-below}
@@ -13,8 +13,9 @@ use Rattle.kind.specs.Kind.{rows, entries}
 use Rattle.kind.specs.Place.{recordAt}
 use Rattle.kind.proofs.Places.{length-recordAt}
 use Rattle.records.specs.declared.slot.Slot.{Slot}
+use Rattle.records.specs.declared.entry.Entry.{Entry}
 use Rattle.records.specs.Slot.{slotOf, slotFields, slotPlace, slotBytes, slotAt, putSlot, putMeta, clearSlot}
-use Rattle.records.specs.Entry.{entryOf, entryPlace, entryBytes, entryAt, putCopy, clearEntry}
+use Rattle.records.specs.Entry.{entryOf, entryFields, entryPlace, entryBytes, entryAt, putEntry, putCopy, clearEntry}
 use Rattle.records.proofs.Slots.{SlotFit, slots-lie, slot-inside}
 use Rattle.records.proofs.Entries.{entries-lie, entry-inside}
 
@@ -51,7 +52,16 @@ pub length-putSlot : (r : ℕ) (m : Slot) (body d : List ℕ) → length (putSlo
 unfolding putSlot
 length-putSlot r m body d = length-sets d (slotPlace r) (bytesOf (slotFields m) ++ body)
 
+pub length-putEntry : (e : ℕ) (m : Entry) (body u : List ℕ) → length (putEntry e m body u) ≡ length u
+unfolding putEntry
+length-putEntry e m body u = length-sets u (entryPlace e) (bytesOf (entryFields m) ++ body)
+
 -- ---- bytes stay bytes
+
+-- fields with a body behind them, stored at any place
+bytes-stored : (at : ℕ) (fs : List (ℕ × ℕ)) (body s : List ℕ) → Bytes body → Bytes s → Bytes (sets s at (bytesOf fs ++ body))
+bytes-stored at fs body s own b =
+    bytes-sets (bytesOf fs ++ body) s at (bytes-append (bytesOf fs) body (bytes-bytesOf fs) own) b
 
 module _ (r : ℕ) (d : List ℕ) (b : Bytes d) where
   pub bytes-putMeta : (m : Slot) → Bytes (putMeta r m d)
@@ -60,16 +70,17 @@ module _ (r : ℕ) (d : List ℕ) (b : Bytes d) where
 
   pub bytes-putSlot : (m : Slot) (body : List ℕ) → Bytes body → Bytes (putSlot r m body d)
   unfolding putSlot
-  bytes-putSlot m body own =
-      bytes-sets (bytesOf (slotFields m) ++ body) d (slotPlace r)
-      (bytes-append (bytesOf (slotFields m)) body (bytes-bytesOf (slotFields m)) own)
-      b
+  bytes-putSlot m body own = bytes-stored (slotPlace r) (slotFields m) body d own b
 
   pub bytes-clearSlot : Bytes (clearSlot r d)
   unfolding clearSlot
   bytes-clearSlot = bytes-sets (replicate 64 0) d (slotPlace r) (bytes-zeros 64) b
 
 module _ (e : ℕ) (u : List ℕ) (b : Bytes u) where
+  pub bytes-putEntry : (m : Entry) (body : List ℕ) → Bytes body → Bytes (putEntry e m body u)
+  unfolding putEntry
+  bytes-putEntry m body own = bytes-stored (entryPlace e) (entryFields m) body u own b
+
   pub bytes-putCopy : (m : Slot) → Bytes (putCopy e m u)
   unfolding putCopy
   bytes-putCopy m = bytes-sets (bytesOf (slotFields m)) u (entryPlace e + 16) (bytes-bytesOf (slotFields m)) b

@@ -82,7 +82,10 @@ pub putSlot-stored : {at : ℕ} {y z : List ℕ} (r : ℕ) (m : Slot) (body s : 
     → z ≡ putSlot r m body s
 putSlot-stored r m body s e h q = rw (putSlot-stores r m body s) (cc)
 
-pub putMeta-stored : {at : ℕ} {y : List ℕ} (r : ℕ) (m : Slot) (s : List ℕ) → at ≡ slotPlace r → y ≡ sets s at (bytesOf (slotFields m)) → y ≡ putMeta r m s
+pub putMeta-stored : {at : ℕ} {y : List ℕ} (r : ℕ) (m : Slot) (s : List ℕ)
+    → at ≡ slotPlace r
+    → y ≡ sets s at (bytesOf (slotFields m))
+    → y ≡ putMeta r m s
 unfolding putMeta
 putMeta-stored r m s e h = h ∙ ap (λ (n : ℕ). sets s n (bytesOf (slotFields m))) e
 
@@ -136,10 +139,12 @@ slotOf-zeros = refl
 abbrev pub WithinSlot : ℕ → List ℕ → List ℕ → Type 0
 WithinSlot = Within 8192 64 127
 
-pub putSlot-within : (r : ℕ) (m : Slot) (body s : List ℕ) → length body ≡ 32 → WithinSlot r s (putSlot r m body s)
+-- a body may be short
+pub putSlot-within : (r : ℕ) (m : Slot) (body s : List ℕ) → length body ≤ 32 → WithinSlot r s (putSlot r m body s)
 unfolding putSlot
 putSlot-within r m body s h =
-    within-front slots-lie r s (bytesOf (slotFields m) ++ body) (omega (arith, length-slot m body h))
+    within-front slots-lie r s (bytesOf (slotFields m) ++ body)
+    (omega (arith, length-append (bytesOf (slotFields m)) body, length-slotFields m))
 
 pub putMeta-within : (r : ℕ) (m : Slot) (s : List ℕ) → WithinSlot r s (putMeta r m s)
 unfolding putMeta

@@ -49,7 +49,7 @@ module _ (d u s : List ℕ) (desk : Desk) (x : ℕ) where
   Session = Admits d u s desk x (placeIn x (desk .numbers))
 
   -- what it writes fits its fields
-  fits : Session → (r : ℕ) → r < rows d → Bytes d → Fits x statement r d
+  pub fits : Session → (r : ℕ) → r < rows d → Bytes d → Fits x statement r d
   unfolding viewAt
   fits a r inside bytes =
       record {
@@ -178,7 +178,7 @@ module _ (d u s : List ℕ) (desk : Desk) (x : ℕ) where
     update-does = done-is (updateRefusal (areas d u s) desk x r body) (0, updated (areas d u s) desk x r body) (λ (n : ℕ). (n, areas d u s)) ok
 
     -- the entry taken is free, and all numbers are small
-    takes : Takes r (lowestFree u) u
+    pub takes : Takes r (lowestFree u) u
     takes =
         let up = updates in
         let lent = admits-lent d u s desk x (placeIn x (desk .numbers)) (up .session) in

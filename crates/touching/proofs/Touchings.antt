@@ -16,7 +16,7 @@ use Rattle.records.specs.Slot.{slotAt, bodyAt, putSlot, putMeta}
 use Rattle.records.specs.Entry.{entryAt, copyBodyAt, putEntry}
 use Rattle.records.proofs.Slots.{SlotFit, slots-lie, slotAt-same, bodyAt-same, putSlot-within, putMeta-within, slotAt-putSlot-same, bodyAt-putSlot-same, slotAt-putMeta-same, bodyAt-putMeta-same}
 use Rattle.records.proofs.Entries.{EntryFit, entries-lie, entryAt-same, copyBodyAt-same, putEntry-within, entryAt-putEntry-same, copyBodyAt-putEntry-same}
-use Rattle.records.proofs.Fits.{length-putSlot, bytes-putMeta, bytes-putSlot}
+use Rattle.records.proofs.Fits.{length-putSlot, length-putEntry, bytes-putMeta, bytes-putSlot}
 use Rattle.page.specs.Header.{pageAt, txnId, itemCount}
 use Rattle.page.specs.Count.{itemsIn, counted, touched}
 use Rattle.page.proofs.Headers.{pageAt-putField-other}
@@ -110,7 +110,7 @@ module _ (txn r : ℕ) (m : Slot) (body d : List ℕ) (long : length body ≡ 32
   pub withSlot-written : WrittenSlot r d (withSlot txn r m body d)
   unfolding withSlot
   withSlot-written =
-      record { stored = putSlot r m body d; kind = dataKind; txn = txn; within = putSlot-within r m body d long; is = refl }
+      record { stored = putSlot r m body d; kind = dataKind; txn = txn; within = putSlot-within r m body d (omega arith); is = refl }
 
   pub slotAt-withSlot : r < rows d → SlotFit m → slotAt r (withSlot txn r m body d) ≡ m
   unfolding withSlot
@@ -139,7 +139,7 @@ module _ (txn e : ℕ) (m : Entry) (body u : List ℕ) (long : length body ≡ 3
   pub withEntry-written : WrittenEntry e u (withEntry txn e m body u)
   unfolding withEntry
   withEntry-written =
-      record { stored = putEntry e m body u; kind = undoKind; txn = txn; within = putEntry-within e m body u long; is = refl }
+      record { stored = putEntry e m body u; kind = undoKind; txn = txn; within = putEntry-within e m body u (omega arith); is = refl }
 
   pub entryAt-withEntry : e < entries u → EntryFit m → entryAt e (withEntry txn e m body u) ≡ m
   unfolding withEntry
@@ -167,3 +167,7 @@ module _ (txn r : ℕ) (m : Slot) (d : List ℕ) where
     pub bytes-withSlot : Bytes body → Bytes d → Bytes (withSlot txn r m body d)
     unfolding withSlot
     bytes-withSlot own b = bytes-touched dataKind (r / 127) txn (putSlot r m body d) (bytes-putSlot r d b m body own)
+
+pub length-withEntry : (txn e : ℕ) (m : Entry) (body u : List ℕ) → length (withEntry txn e m body u) ≡ length u
+unfolding withEntry
+length-withEntry txn e m body u = length-touched undoKind (e / 101) txn (putEntry e m body u) ∙ length-putEntry e m body u

@@ -33,7 +33,11 @@ pageAt-sets p s page e h =
 
 -- a blank page is zeros with five fields stored
 blankPage-sets : (k : Kind) (id : ℕ)
-    → blankPage k id ≡ sets (sets (sets (sets (sets (replicate 8192 0) 16 (digits 4 id)) 36 (digits 2 (k .free))) 44 (digits 1 (k .code))) 45 (digits 1 (k .engine))) 47 (digits 1 1)
+    → blankPage k id
+    ≡ sets
+    (sets (sets (sets (sets (replicate 8192 0) 16 (digits 4 id)) 36 (digits 2 (k .free))) 44 (digits 1 (k .code))) 45 (digits 1 (k .engine)))
+    47
+    (digits 1 1)
 unfolding blankPage bytesOf digits
 blankPage-sets k id = refl
 
@@ -42,7 +46,11 @@ record Stored (s : List ℕ) (at : ℕ) (y page : List ℕ) : Type 0 where
   pub is : y ≡ sets s at page
   pub long : length page ≡ 8192
 
-stored-field : {y page z : List ℕ} (s : List ℕ) (at o w v : ℕ) → o + w ≤ 8192 → z ≡ sets y (at + o) (digits w v) → Stored s at y page → Stored s at z (sets page o (digits w v))
+stored-field : {y page z : List ℕ} (s : List ℕ) (at o w v : ℕ)
+    → o + w ≤ 8192
+    → z ≡ sets y (at + o) (digits w v)
+    → Stored s at y page
+    → Stored s at z (sets page o (digits w v))
 stored-field {y} {page} s at o w v h q e =
     record {
       is =
@@ -61,7 +69,9 @@ five-stores : {y₀ y₁ y₂ y₃ y₄ y₅ : List ℕ} (s : List ℕ) (at : �
     → y₃ ≡ sets y₂ (at + 44) (digits 1 (k .code))
     → y₄ ≡ sets y₃ (at + 45) (digits 1 (k .engine))
     → y₅ ≡ sets y₄ (at + 47) (digits 1 1)
-    → y₅ ≡ sets s at (sets (sets (sets (sets (sets page 16 (digits 4 id)) 36 (digits 2 (k .free))) 44 (digits 1 (k .code))) 45 (digits 1 (k .engine))) 47 (digits 1 1))
+    → y₅
+    ≡ sets s at
+    (sets (sets (sets (sets (sets page 16 (digits 4 id)) 36 (digits 2 (k .free))) 44 (digits 1 (k .code))) 45 (digits 1 (k .engine))) 47 (digits 1 1))
 five-stores s at page k id long e₀ e₁ e₂ e₃ e₄ e₅ =
     stored-field s at 47 1 1 (omega arith) e₅
     (stored-field s at 45 1 (k .engine) (omega arith) e₄
@@ -82,7 +92,10 @@ blank-stores s at k id e₀ e₁ e₂ e₃ e₄ e₅ =
     five-stores s at (replicate 8192 0) k id (length-replicate {A = ℕ} 8192 0) e₀ e₁ e₂ e₃ e₄ e₅ ∙ ap (sets s at) (sym (blankPage-sets k id))
 
 -- the store of a checksum: x is what was computed, y what the area then is
-pub sealedPage-store : {y : List ℕ} (p : ℕ) (s : List ℕ) (x : ℕ) → x ≡ checksumOf (take (p * 8192 + 8192 - p * 8192) (drop (p * 8192) s)) → y ≡ sets s (p * 8192 + 20) (digits 4 x) → y ≡ sealedPage p s
+pub sealedPage-store : {y : List ℕ} (p : ℕ) (s : List ℕ) (x : ℕ)
+    → x ≡ checksumOf (take (p * 8192 + 8192 - p * 8192) (drop (p * 8192) s))
+    → y ≡ sets s (p * 8192 + 20) (digits 4 x)
+    → y ≡ sealedPage p s
 unfolding sealedPage putField
 sealedPage-store p s x h q = q ∙ ap (λ (v : ℕ). sets s (p * 8192 + 20) (digits 4 v)) (h ∙ ap checksumOf (pageAt-lent p s))
 
@@ -95,7 +108,8 @@ unfolding sealedPage putField freshPage
 sealedPage-blankPage p s k id h e q =
     q
     ∙ ap (sealedPage p) e
-    ∙ ap (λ (page : List ℕ). sets (sets s (p * 8192) (blankPage k id)) (p * 8192 + 20) (digits 4 (checksumOf page))) (pageAt-sets p s (blankPage k id) (length-blankPage k id) h)
+    ∙ ap (λ (page : List ℕ). sets (sets s (p * 8192) (blankPage k id)) (p * 8192 + 20) (digits 4 (checksumOf page)))
+    (pageAt-sets p s (blankPage k id) (length-blankPage k id) h)
     ∙ stored-field s (p * 8192) 20 4 (checksumOf (blankPage k id)) (omega arith) refl (record { is = refl; long = length-blankPage k id }) .is
 
 -- ---- the checksum

@@ -1,0 +1,14 @@
+pub mod Steps
+pub mod Worlds
+pub mod Accepts
+pub mod Sessions
+pub mod Writes
+pub mod Removals
+pub mod Keeping
+pub mod Answered
+pub mod Refused
+pub mod Runs
+pub mod Restored
+pub mod Counted
+pub mod Reopened
+pub mod Promises

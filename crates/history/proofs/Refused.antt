@@ -1,0 +1,183 @@
+-- Refused calls leave the world as it was, of any world; and no call of a good world is refused under 6, because every chain is whole.
+-- Assumes nothing.
+use Prim.Native.Nat.{ℕ, suc, _+_, _<_}
+use mathlib.Core.Path.{_≡_, refl, ap, sym, _∙_}
+use mathlib.Core.Bool.{Bool, true, false, not, _&&_, _||_, cond}
+use mathlib.Core.List.{List, [], _∷_}
+use native.Mathlib.Omega.{arith}
+use lib.Dec.{eqb, ltb}
+use borrow.Author.Tests.{eqb-false, leb-false, ltb-false}
+use Rattle.ground.proofs.Ranges.{all-intro}
+use lib.ListN.{getD}
+use Rattle.columns.specs.Limits.{sessions, lastStatement}
+use Rattle.places.specs.Open.{openCount, placeIn, isOpen}
+use Rattle.desk.specs.Desk.{lastNext}
+use Rattle.desk.specs.Sound.{sound}
+use Rattle.kind.specs.Kind.{rows, entries}
+use Rattle.kind.specs.Areas.{areas, badLength}
+use Rattle.vacant.specs.Vacant.{lowestEmpty, lowestFree}
+use Rattle.keep.specs.Whole.{storeRight}
+use Rattle.records.specs.declared.slot.Slot.{Slot}
+use Rattle.records.specs.Slot.{slotAt}
+use Rattle.desk.specs.declared.View.{View}
+use Rattle.chain.specs.declared.Walk.the-variants.{Found}
+use Rattle.chain.specs.Chain.{Version, chainOf}
+use Rattle.chain.specs.Walk.{firstIn, walkRule, thereIn}
+use Rattle.keep.specs.Keep.{formatRefusal, openRefusal, sealRefusal}
+use Rattle.turns.specs.Turns.{beginRefusal, nextRefusal, commitRefusal}
+use Rattle.seeking.specs.Seeking.{noRow, isBroken, breaks, misses, says}
+use Rattle.rows.specs.Rows.{viewIn, badBody, insertRefusal, updateRefusal, deleteRefusal, readRefusal}
+use Rattle.putback.specs.PutBack.{ownMade}
+use Rattle.undoing.specs.Undoing.{brokenRow, someBroken, withdrawRefusal}
+use Rattle.sweeping.specs.Sweeping.{treated, allWhole, sweepRefusal}
+use Rattle.sweeping.proofs.Calls.{treats-few}
+use Rattle.machine.specs.Lines.{Call, refused, done, format, opens, seal, begin, next, insert, update, delete, read, commit, withdraw, sweep}
+use Rattle.history.specs.World.{World, Turn, says as answerOf, after}
+use Rattle.history.proofs.Steps.{refusalOf, doneTurn, step-settled}
+use Rattle.history.proofs.Worlds.{Good}
+
+-- ---- a refused call leaves the world
+
+pub done-refused : (a b n : ℕ) (y : List ℕ) → done a b y ≡ refused n → ⊥
+done-refused a b n y e = let z : _≡_ {A = ℕ} 0 1 = cc in absurd (omega arith)
+
+-- what is done is not refused
+not-refused : (w : World) (c : Call) (n : ℕ) → doneTurn w c .answer ≡ refused n → ⊥
+not-refused w (format d u s) n e = done-refused _ _ n _ e
+not-refused w opens n e = done-refused _ _ n _ e
+not-refused w seal n e = done-refused _ _ n _ e
+not-refused w begin n e = done-refused _ _ n _ e
+not-refused w (next x) n e = done-refused _ _ n _ e
+not-refused w (insert x y) n e = done-refused _ _ n _ e
+not-refused w (update x q y) n e = done-refused _ _ n _ e
+not-refused w (delete x q) n e = done-refused _ _ n _ e
+not-refused w (read x q) n e = done-refused _ _ n _ e
+not-refused w (commit x) n e = done-refused _ _ n _ e
+not-refused w (withdraw x) n e = done-refused _ _ n _ e
+not-refused w (sweep first quota) n e = done-refused _ _ n _ e
+
+pub leaves : (w : World) (c : Call) (n : ℕ) → answerOf w c ≡ refused n → after w c ≡ w
+leaves w c n =
+    step-settled w c (λ (t : Turn). t .answer ≡ refused n → t .left ≡ w) (λ e f. absurd (not-refused w c n f)) (λ m e f. refl)
+
+-- the number answered is the one that the list of refusals gives
+pub refused-as : (w : World) (c : Call) (n : ℕ) → answerOf w c ≡ refused n → refusalOf w c ≡ n
+refused-as w c n =
+    step-settled w c (λ (t : Turn). t .answer ≡ refused n → refusalOf w c ≡ n) (λ e f. absurd (not-refused w c n f))
+    (λ m e f. e ∙ (let z : suc m ≡ n = cc in z))
+
+-- ---- no 6
+
+-- a line that does not hold, or has another number, is not the one that gives 6
+past : (b : Bool) (n m : ℕ) → eqb n 6 ≡ false → cond b n m ≡ 6 → (b ≡ false) × (m ≡ 6)
+past true n m ne e = absurd (eqb-false n 6 ne e)
+past false n m ne e = (refl, e)
+
+six-zero : _≡_ {A = ℕ} 0 6 → ⊥
+six-zero e = absurd (omega (arith, e))
+
+-- 7 to 10 and what stands behind them are asked after 6, 1, 2 and 4 before it
+module _ (d s : List ℕ) (v : View) (r : ℕ) where
+  tail : (miss : Bool) (rest : ℕ) → cond miss 7 (cond (says d s v r 8) 8 (cond (says d s v r 9) 9 (cond (says d s v r 10) 10 rest))) ≡ 6 → rest ≡ 6
+  tail miss rest e =
+      let a = past miss 7 (cond (says d s v r 8) 8 (cond (says d s v r 9) 9 (cond (says d s v r 10) 10 rest))) refl e in
+      let b = past (says d s v r 8) 8 (cond (says d s v r 9) 9 (cond (says d s v r 10) 10 rest)) refl (a .1) in
+      let c = past (says d s v r 9) 9 (cond (says d s v r 10) 10 rest) refl (b .1) in
+      past (says d s v r 10) 10 rest refl (c .1) .1
+
+module _ (w : World) where
+  desk-asked : (rest : ℕ) → cond (badLength (w .held)) 1 (cond (not (sound (w .desk))) 2 rest) ≡ 6 → rest ≡ 6
+  desk-asked rest e = past (not (sound (w .desk))) 2 rest refl (past (badLength (w .held)) 1 (cond (not (sound (w .desk))) 2 rest) refl e .1) .1
+
+  front : (x rest : ℕ) → cond (badLength (w .held)) 1 (cond (not (sound (w .desk))) 2 (cond (not (isOpen x (w .desk .numbers))) 4 rest)) ≡ 6 → rest ≡ 6
+  front x rest e = past (not (isOpen x (w .desk .numbers))) 4 rest refl (desk-asked (cond (not (isOpen x (w .desk .numbers))) 4 rest) e) .1
+
+-- along a whole chain no break is met
+unbroken : (p : Slot → Bool) (n : ℕ) (xs : List Version) → isBroken (firstIn p n xs true) ≡ false
+unfolding firstIn
+unbroken p n [] = refl
+unbroken p n (x ∷ xs) = go (p (x .slot)) (unbroken p (n + 1) xs)
+  where
+    go : (b : Bool) → isBroken (firstIn p (n + 1) xs true) ≡ false → isBroken (cond b (Found (x .place) (n + 1)) (firstIn p (n + 1) xs true)) ≡ false
+    go true ih = refl
+    go false ih = ih
+
+module _ (w : World) (g : Good w) where
+  abbrev d : List ℕ
+  d = w .held .«data»
+
+  abbrev u : List ℕ
+  u = w .held .undo
+
+  walks : (v : View) (r : ℕ) → r < rows d → breaks d u (w .held .status) v r ≡ false
+  unfolding breaks walkRule
+  walks v r inside =
+      ap (λ (b : Bool). isBroken (firstIn (thereIn v (w .held .status)) 0 (chainOf d u r .versions) b)) (g .whole r inside)
+      ∙ unbroken (thereIn v (w .held .status)) 0 (chainOf d u r .versions)
+
+  withdraws : (x : ℕ) → someBroken x 0 d u ≡ false
+  unfolding someBroken brokenRow
+  withdraws x =
+      ap not (all-intro (λ (r : ℕ). not (ownMade x 0 (slotAt r d) && isBroken (firstIn other-made 0 (chainOf d u r .versions) (chainOf d u r .whole)))) (rows d)
+      (λ r inside. row r inside (ownMade x 0 (slotAt r d))))
+    where
+      other-made : Slot → Bool
+      other-made m = not (ownMade x 0 m)
+
+      row : (r : ℕ) → r < rows d → (b : Bool) → not (b && isBroken (firstIn other-made 0 (chainOf d u r .versions) (chainOf d u r .whole))) ≡ true
+      row r inside true =
+          ap not (ap (λ (b : Bool). isBroken (firstIn other-made 0 (chainOf d u r .versions) b)) (g .whole r inside) ∙ unbroken other-made 0 (chainOf d u r .versions))
+      row r inside false = refl
+
+  sweeps : (first quota : ℕ) → ltb (rows d) first ≡ false → not (allWhole d u first (treated d first quota)) ≡ false
+  unfolding allWhole
+  sweeps first quota e =
+      let n : ℕ = treated d first quota in
+      let within = treats-few d first quota (ltb-false (rows d) first e) in
+      ap not (all-intro (λ (i : ℕ). chainOf d u (first + i) .whole) (treated d first quota) (λ i l. g .whole (first + i) (omega (arith, l, within))))
+
+  abbrev s : List ℕ
+  s = w .held .status
+
+  -- a row call of a row of the area
+  row-call : (five : Bool) (v : View) (r : ℕ) (rest : ℕ) → (five ≡ false → r < rows d) → cond five 5 (cond (breaks d u s v r) 6 rest) ≡ 6 → rest ≡ 6
+  row-call five v r rest inside e =
+      let f = past five 5 (cond (breaks d u s v r) 6 rest) refl e in
+      sym (ap (λ (b : Bool). cond b 6 rest) (walks v r (inside (f .0)))) ∙ f .1
+
+  in-area : (r : ℕ) → noRow d r ≡ false → r < rows d
+  unfolding noRow
+  in-area r e = leb-false (rows d) r e
+
+  first-false : (a b : Bool) → (a || b) ≡ false → a ≡ false
+  first-false true b e = e
+  first-false false b e = refl
+
+  not-6 : (c : Call) → refusalOf w c ≡ 6 → ⊥
+  unfolding formatRefusal openRefusal sealRefusal beginRefusal nextRefusal insertRefusal updateRefusal deleteRefusal readRefusal commitRefusal withdrawRefusal sweepRefusal
+  not-6 (format a b c) e = six-zero (past (badLength (areas a b c)) 1 0 refl e .1)
+  not-6 opens e = six-zero (past (not (storeRight (w .held))) 3 0 refl (past (badLength (w .held)) 1 (cond (not (storeRight (w .held))) 3 0) refl e .1) .1)
+  not-6 seal e = six-zero (past (ltb 0 (openCount (w .desk .numbers))) 15 0 refl (desk-asked w _ e) .1)
+  not-6 begin e =
+      let c = past (eqb (openCount (w .desk .numbers)) sessions) 12 (cond (eqb (w .desk .next) lastNext) 13 0) refl (desk-asked w _ e) in
+      six-zero (past (eqb (w .desk .next) lastNext) 13 0 refl (c .1) .1)
+  not-6 (next x) e = six-zero (past (eqb (getD (w .desk .statements) (placeIn x (w .desk .numbers)) 0) lastStatement) 14 0 refl (front w x _ e) .1)
+  not-6 (insert x y) e =
+      six-zero (past (eqb (lowestEmpty d) (rows d)) 11 0 refl (past (badBody y) 5 (cond (eqb (lowestEmpty d) (rows d)) 11 0) refl (front w x _ e) .1) .1)
+  not-6 (update x q y) e =
+      let r = row-call (noRow d q || badBody y) (viewIn (w .desk) x) q _ (λ f. in-area q (first-false (noRow d q) (badBody y) f)) (front w x _ e) in
+      six-zero (past (eqb (lowestFree u) (entries u)) 11 0 refl (tail d s (viewIn (w .desk) x) q (misses d u s (viewIn (w .desk) x) q) _ r) .1)
+  not-6 (delete x q) e =
+      let r = row-call (noRow d q) (viewIn (w .desk) x) q _ (in-area q) (front w x _ e) in
+      six-zero (tail d s (viewIn (w .desk) x) q (misses d u s (viewIn (w .desk) x) q) _ r)
+  not-6 (read x q) e =
+      let r = row-call (noRow d q) (viewIn (w .desk) x) q _ (in-area q) (front w x _ e) in
+      six-zero (past (misses d u s (viewIn (w .desk) x) q) 7 0 refl r .1)
+  not-6 (commit x) e = six-zero (front w x 0 e)
+  not-6 (withdraw x) e = six-zero (sym (ap (λ (b : Bool). cond b 6 0) (withdraws x)) ∙ front w x (cond (someBroken x 0 d u) 6 0) e)
+  not-6 (sweep first quota) e =
+      let f = past (ltb (rows d) first) 5 (cond (not (allWhole d u first (treated d first quota))) 6 0) refl (desk-asked w _ e) in
+      six-zero (sym (ap (λ (b : Bool). cond b 6 0) (sweeps first quota (f .0))) ∙ f .1)
+
+  pub never-6 : (c : Call) → answerOf w c ≡ refused 6 → ⊥
+  never-6 c e = not-6 c (refused-as w c 6 e)

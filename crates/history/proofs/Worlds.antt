@@ -1,0 +1,47 @@
+-- What holds of every world that calls lead to from a format, and how such a world is seen as the machine. Assumes nothing.
+use Prim.Native.Nat.{ℕ, _+_}
+use mathlib.Core.Path.{_≡_, refl}
+use mathlib.Core.Bool.{true}
+use lib.ListN.{length}
+use Rattle.desk.specs.Sound.{sound}
+use Rattle.sessions.proofs.Changes.{Long}
+use Rattle.kind.specs.Kind.{lengthsOk, dataKind, undoKind, statusKind}
+use Rattle.versions.specs.Versions.{AllWhole}
+use Rattle.keep.specs.Whole.{highest}
+use Rattle.keep.proofs.Promises.{Sealable}
+use Rattle.machine.specs.Lines.{Call, refused}
+use Rattle.machine.specs.Machine.{Machine}
+use Rattle.machine.specs.Table.{History}
+use Rattle.machine.specs.Runs.{Reach}
+use Rattle.machine.proofs.Follows.{Did}
+use Rattle.seen.specs.Seen.{seenAs}
+use Rattle.history.specs.World.{World, Turn, turn}
+
+-- the world seen as the machine
+abbrev pub seen : World → Machine
+seen w = seenAs (w .held .«data») (w .held .undo) (w .held .status) (w .desk)
+
+-- lengths are allowed, the desk is sound, every chain is whole, every header is right but for its checksum, and the status page has the
+-- highest number handed out
+pub record Good (w : World) : Type 0 where
+  pub lengths : lengthsOk (length (w .held .«data»)) (length (w .held .undo)) (length (w .held .status)) ≡ true
+  pub sound : sound (w .desk) ≡ true
+  pub long : Long (w .desk)
+  pub whole : AllWhole (w .held .«data») (w .held .undo)
+  pub «data» : Sealable dataKind (w .held .«data»)
+  pub undo : Sealable undoKind (w .held .undo)
+  pub status : Sealable statusKind (w .held .status)
+  pub high : highest (w .held .status) + 1 ≡ w .desk .next
+
+-- the call leaves such a world, and did on the machine what its answer says
+pub record Goes (w : World) (c : Call) (t : Turn) : Type 0 where
+  pub keeps : Good (t .left)
+  pub did : (h : History) → Reach (seen w) h → Did (seen w) c (t .answer) (seen (t .left))
+
+-- a refused call
+pub stays : (w : World) → Good w → (c : Call) (n : ℕ) → Goes w c (turn (refused n) w)
+stays w g c n = record { keeps = g; did = λ h x. refl }
+
+-- three lengths that stayed are still allowed
+pub stay-allowed : {d d′ u u′ s s′ : ℕ} → d′ ≡ d → u′ ≡ u → s′ ≡ s → lengthsOk d u s ≡ true → lengthsOk d′ u′ s′ ≡ true
+stay-allowed a b c h = rw (a, b, c) h

@@ -1,0 +1,1 @@
+// No code: how the areas and the desk are seen as the machine.

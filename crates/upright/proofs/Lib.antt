@@ -1,0 +1,4 @@
+pub mod Pages
+pub mod Records
+pub mod Calls
+pub mod Statuses
