@@ -11,4 +11,5 @@ pub mod Runs
 pub mod Restored
 pub mod Counted
 pub mod Reopened
+pub mod Progress
 pub mod Promises

@@ -115,7 +115,7 @@ module _ (w : World) (g : Good w) where
       ap (λ (b : Bool). isBroken (firstIn (thereIn v (w .held .status)) 0 (chainOf d u r .versions) b)) (g .whole r inside)
       ∙ unbroken (thereIn v (w .held .status)) 0 (chainOf d u r .versions)
 
-  withdraws : (x : ℕ) → someBroken x 0 d u ≡ false
+  pub withdraws : (x : ℕ) → someBroken x 0 d u ≡ false
   unfolding someBroken brokenRow
   withdraws x =
       ap not (all-intro (λ (r : ℕ). not (ownMade x 0 (slotAt r d) && isBroken (firstIn other-made 0 (chainOf d u r .versions) (chainOf d u r .whole)))) (rows d)
@@ -129,7 +129,7 @@ module _ (w : World) (g : Good w) where
           ap not (ap (λ (b : Bool). isBroken (firstIn other-made 0 (chainOf d u r .versions) b)) (g .whole r inside) ∙ unbroken other-made 0 (chainOf d u r .versions))
       row r inside false = refl
 
-  sweeps : (first quota : ℕ) → ltb (rows d) first ≡ false → not (allWhole d u first (treated d first quota)) ≡ false
+  pub sweeps : (first quota : ℕ) → ltb (rows d) first ≡ false → not (allWhole d u first (treated d first quota)) ≡ false
   unfolding allWhole
   sweeps first quota e =
       let n : ℕ = treated d first quota in

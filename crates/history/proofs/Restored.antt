@@ -17,7 +17,7 @@ use Rattle.machine.specs.Machine.{Machine, Version, find, isSome, isNil, withdr
 use Rattle.machine.specs.Runs.{From, First, firstOf, add}
 use Rattle.machine.proofs.Basics.{true-false}
 use Rattle.machine.proofs.Desks.{found-of}
-use Rattle.machine.proofs.Backs.{withdrawn-back}
+use Rattle.machine.proofs.Backs.{withdrawn-back, withdrawn-else}
 use Rattle.machine.proofs.Follows.{Did, Took}
 use Rattle.machine.proofs.Dids.{Wrote, did-write}
 use Rattle.seen.specs.Seen.{rowOf}
@@ -61,6 +61,10 @@ standing-is w r = go (ltb r (rows d)) refl (isEmpty w r) refl
 
 -- ---- withdrawal
 
+took : (w w′ : World) (n : ℕ) (a : Answer) → isDone a ≡ true → Did (seen w) (withdraw n) a (seen w′) → Took (seen w) (Withdraw n) (seen w′)
+took w w′ n (refused k) e d = true-false false e refl
+took w w′ n (done a b y) e d = d
+
 module _ (w : World) (h : History) (s : Stands w h) (n r : ℕ) (before : hasWritten h n r ≡ false) (c : Call) (p : Proper c) where
   -- the world after the write, after the other calls, and after the withdrawal
   module _ (cs : List Call) (ps : AllProper cs) (f : noFormat cs ≡ true) where
@@ -70,22 +74,18 @@ module _ (w : World) (h : History) (s : Stands w h) (n r : ℕ) (before : hasWri
     abbrev later : World
     later = afterAll wrote cs
 
-    withdrew : (a : Answer) → isDone a ≡ true → Did (seen later) (withdraw n) a (seen (after later (withdraw n))) → Took (seen later) (Withdraw n) (seen (after later (withdraw n)))
-    withdrew (refused k) e d = true-false false e refl
-    withdrew (done a b y) e d = d
-
     first-back : (a : Answer) → isDone a ≡ true → says w c ≡ a → isWrite n r c (given a) ≡ true → Did (seen w) c a (seen wrote)
         → isDone (says later (withdraw n)) ≡ true
         → firstOf (seen (after later (withdraw n)) .rows r) ≡ firstOf (seen w .rows r)
     first-back (refused k) e q wr d t = true-false false e refl
-    first-back (done a b y) e q wr d t =
+    first-back (done a b z) e q wr d t =
         let st : Stands wrote (heard h c (says w c)) = stands-call w h s c p in
         let step : Wrote n r (seen w) c a (seen wrote) = did-write n r (seen w) c a (seen wrote) wr d in
         let on : From (seen wrote) (heard h c (says w c)) (seen later) (historyFrom (heard h c (says w c)) (linesOf wrote cs)) = leads-calls cs wrote (heard h c (says w c)) st ps f in
         let st₂ = stands-calls cs wrote (heard h c (says w c)) st ps in
-        let took = withdrew (says later (withdraw n)) t (goes later (st₂ .good) (withdraw n) tt .did _ (st₂ .reach)) in
-        let (o, found) = found-of n (seen later .desk) (find n (seen later .desk)) refl (took .0) in
-        ap (λ (m : Machine). firstOf (m .rows r)) (sym (took .1))
+        let y = took later (after later (withdraw n)) n (says later (withdraw n)) t (goes later (st₂ .good) (withdraw n) tt .did _ (st₂ .reach)) in
+        let (o, found) = found-of n (seen later .desk) (find n (seen later .desk)) refl (y .0) in
+        ap (λ (m : Machine). firstOf (m .rows r)) (sym (y .1))
         ∙ withdrawn-back (s .reach) n r before (step .step) (step .writes) (step .accepts)
         (subst (λ (m : Machine). From m (add (seen w) (step .step) h) (seen later) (historyFrom (heard h c (says w c)) (linesOf wrote cs))) (sym (step .leaves))
         (subst (λ (k : History). From (seen wrote) k (seen later) (historyFrom (heard h c (says w c)) (linesOf wrote cs))) (ap (heard h c) q ∙ sym (step .tells h)) on))
@@ -98,6 +98,17 @@ module _ (w : World) (h : History) (s : Stands w h) (n r : ℕ) (before : hasWri
         standing-is (after later (withdraw n)) r
         ∙ ap asStanding (first-back (says w c) e refl wr (goes w (s .good) c p .did h (s .reach)) t)
         ∙ sym (standing-is w r)
+
+-- ---- a row that S did not write
+
+pub spared-rows : (w : World) (h : History) → Stands w h → (n r : ℕ) → hasWritten h n r ≡ false → isDone (says w (withdraw n)) ≡ true
+    → standingIn (after w (withdraw n)) r ≡ standingIn w r
+spared-rows w h s n r before t =
+    let y = took w (after w (withdraw n)) n (says w (withdraw n)) t (goes w (s .good) (withdraw n) tt .did h (s .reach)) in
+    let (o, found) = found-of n (seen w .desk) (find n (seen w .desk)) refl (y .0) in
+    standing-is (after w (withdraw n)) r
+    ∙ ap (λ (vs : List Version). asStanding (firstOf vs)) (ap (λ (m : Machine). m .rows r) (sym (y .1)) ∙ withdrawn-else (s .reach) n r before o found)
+    ∙ sym (standing-is w r)
 
 -- ---- a row that an insert took was empty
 

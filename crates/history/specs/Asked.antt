@@ -2,15 +2,15 @@
 -- how often a row was updated. There is no list of versions here, no mark and no rule of sight. Assumes nothing.
 use Prim.Native.Nat.{ℕ, suc}
 use mathlib.Core.Path.{_≡_}
-use mathlib.Core.Bool.{Bool, true, not, _&&_, cond}
+use mathlib.Core.Bool.{Bool, true, false, not, _&&_, cond}
 use mathlib.Core.Option.{Option, none, some}
 use mathlib.Core.List.{List, [], _∷_}
 use lib.Dec.{eqb, ltb}
 use Rattle.little.specs.Little.{Bytes}
 use Rattle.kind.specs.Kind.{rows}
 use Rattle.records.specs.Slot.{slotAt, bodyAt}
-use Rattle.machine.specs.Table.{Body, History}
-use Rattle.machine.specs.Lines.{Call, format, opens, seal, begin, next, insert, update, delete, read, commit, withdraw, sweep, Answer, refused, done, isDone, isFormat, isUpdate, spares, historyOf}
+use Rattle.machine.specs.Table.{Body, History, hasWritten}
+use Rattle.machine.specs.Lines.{Call, format, opens, seal, begin, next, insert, update, delete, read, commit, withdraw, sweep, Answer, refused, done, isDone, given, isFormat, isUpdate, isWrite, spares, historyOf}
 use Rattle.history.specs.World.{World, says, after, afterAll, linesOf}
 
 -- ---- the worlds that histories lead to
@@ -110,3 +110,23 @@ updatesFrom w r k (c ∷ cs) =
 
 abbrev pub updates : Run → ℕ → ℕ
 updates x r = updatesFrom (start x) r 0 (x .calls)
+
+-- ---- withdrawals
+
+-- S writes row r for the first time after x, whatever calls follow but a format, and S is withdrawn
+pub record Withdrawal (x : Run) (n r : ℕ) : Type 0 where
+  pub first : hasWritten (history x) n r ≡ false
+  -- the write, accepted
+  pub write : Call
+  pub proper : Proper write
+  pub accepted : isDone (says (end x) write) ≡ true
+  pub writes : isWrite n r write (given (says (end x) write)) ≡ true
+  -- the calls that follow
+  pub calls : List Call
+  pub allProper : AllProper calls
+  pub unformatted : noFormat calls ≡ true
+  -- the withdrawal, accepted
+  pub withdrawn : isDone (says (afterAll (after (end x) write) calls) (withdraw n)) ≡ true
+
+abbrev pub withdrawnWorld : {x : Run} {n r : ℕ} → Withdrawal x n r → World
+withdrawnWorld {x} {n} {r} y = after (afterAll (after (end x) (y .write)) (y .calls)) (withdraw n)

@@ -1,0 +1,95 @@
+-- DEMAND 3 as six theorems and the law under them: "After any sequence of calls from a format, an open session reads what the history alone
+-- says." These are the statements; proofs/Promises.antt has their proofs. Assumes nothing.
+use Prim.Native.Nat.{ℕ, suc, _≤_, _<_}
+use mathlib.Core.Path.{_≡_}
+use mathlib.Core.Bool.{true, false}
+use mathlib.Core.Option.{none}
+use mathlib.Core.List.{List, []}
+use lib.ListN.{length}
+use Rattle.places.specs.Open.{openCount}
+use Rattle.kind.specs.Kind.{lengthsOk, rows}
+use Rattle.sight.specs.Sight.{sees}
+use Rattle.rows.specs.Rows.{viewIn}
+use Rattle.machine.specs.Table.{Body, plainTable, openIn, committedBefore, hasWritten, numberTable, whenBegan, writesBefore, statementOf, play}
+use Rattle.machine.specs.Lines.{Call, format, opens, seal, begin, insert, read, commit, withdraw, sweep, refused, done, isDone}
+use Rattle.history.specs.World.{World, says, after, afterAll}
+use Rattle.history.specs.Asked.{AllProper, Run, end, history, allSpare, bodyRead, Answers, isEmpty, standingIn, updates, Withdrawal, withdrawnWorld}
+
+-- 1, READING: for every open session and every row, read answers a body exactly when the plain table has one, and then that body;
+-- otherwise it answers 7
+abbrev pub Reading : Type 0
+Reading = (x : Run) (n : ℕ) → openIn (history x) n ≡ true → (r : ℕ) → r < rows (end x .held .«data»)
+    → Answers (plainTable (history x) n r) (says (end x) (read n r))
+
+-- of a row that the area has not, the plain table has nothing, and read answers 5
+abbrev pub ReadingOutside : Type 0
+ReadingOutside = (x : Run) (n : ℕ) → openIn (history x) n ≡ true → (r : ℕ) → rows (end x .held .«data») ≤ r
+    → (plainTable (history x) n r ≡ none) × (says (end x) (read n r) ≡ refused 5)
+
+-- 2, NOTHING ELSE ALTERS A READING: whatever other sessions do, whatever is swept, sealed or opened, and whatever S itself writes in its
+-- present statement, S reads what it read
+abbrev pub NothingElse : Type 0
+NothingElse = (x : Run) (n : ℕ) → openIn (history x) n ≡ true → (cs : List Call) → AllProper cs → allSpare n cs ≡ true → (r : ℕ)
+    → bodyRead (says (afterAll (end x) cs) (read n r)) ≡ bodyRead (says (end x) (read n r))
+
+-- 3, WITHDRAWAL gives each row that S wrote the body, creator and creating statement that it had before S's first write, and the expirer
+abbrev pub Restores : Type 0
+Restores = (x : Run) (n r : ℕ) (y : Withdrawal x n r) → standingIn (withdrawnWorld y) r ≡ standingIn (end x) r
+
+-- empties each row that S inserted
+abbrev pub Empties : Type 0
+Empties = (x : Run) (n r : ℕ) (y : Withdrawal x n r) (b : Body) → y .write ≡ insert n b → standingIn (withdrawnWorld y) r ≡ none
+
+-- and leaves each row that S did not write
+abbrev pub Spares : Type 0
+Spares = (x : Run) (n r : ℕ) → hasWritten (history x) n r ≡ false → isDone (says (end x) (withdraw n)) ≡ true
+    → standingIn (after (end x) (withdraw n)) r ≡ standingIn (end x) r
+
+-- 4, NO CALL ANSWERS 6
+abbrev pub NoSix : Type 0
+NoSix = (x : Run) (c : Call) → says (end x) c ≡ refused 6 → ⊥
+
+-- and open straight after an accepted seal is done, so that it never answers 3
+abbrev pub SealedOpens : Type 0
+SealedOpens = (x : Run) → isDone (says (end x) seal) ≡ true → says (after (end x) seal) opens ≡ done 0 0 []
+
+-- 5, COUNT: an accepted read's count is at most 1 more than the accepted updates of that row since its slot was last empty
+abbrev pub Count : Type 0
+Count = (x : Run) (n r k j : ℕ) (b : Body) → says (end x) (read n r) ≡ done k j b → k ≤ suc (updates x r)
+
+-- 6, REFUSED CALLS LEAVE THE WORLD AS IT WAS, whatever world it is
+abbrev pub RefusedLeaves : Type 0
+RefusedLeaves = (w : World) (c : Call) (n : ℕ) → says w c ≡ refused n → after w c ≡ w
+
+-- THE LAW UNDER THEM: S sees X exactly when X committed before S began
+abbrev pub SeesExactly : Type 0
+SeesExactly = (x : Run) (n : ℕ) → openIn (history x) n ≡ true → (y : ℕ)
+    → sees (viewIn (end x .desk) n .number) (viewIn (end x .desk) n .list) (end x .held .status) y ≡ committedBefore (history x) y n
+
+-- replayed in the order of numbers instead of commits, the plain table is the same
+abbrev pub ByNumber : Type 0
+ByNumber = (x : Run) (n r : ℕ)
+    → play (numberTable (whenBegan (history x) n)) (writesBefore (statementOf (history x) n) (history x) n) r ≡ plainTable (history x) n r
+
+-- ---- no needless refusal
+
+-- a format is done where the lengths are allowed, whatever was there
+abbrev pub Formats : Type 0
+Formats = (w : World) (d u s : List ℕ) → lengthsOk (length d) (length u) (length s) ≡ true → isDone (says w (format d u s)) ≡ true
+
+-- begin, where fewer than 16 sessions are open and a number is left
+abbrev pub Begins : Type 0
+Begins = (x : Run) → openCount (end x .desk .numbers) < 16 → end x .desk .next < 32576 → isDone (says (end x) begin) ≡ true
+
+-- an insert of 32 bytes by an open session, where a row is empty
+abbrev pub Inserts : Type 0
+Inserts = (x : Run) (n : ℕ) → openIn (history x) n ≡ true → (b : Body) → length b ≡ 32 → (r : ℕ) → r < rows (end x .held .«data») → isEmpty (end x) r ≡ true
+    → isDone (says (end x) (insert n b)) ≡ true
+
+-- commit and withdraw of an open session
+abbrev pub Ends : Type 0
+Ends = (x : Run) (n : ℕ) → openIn (history x) n ≡ true → (isDone (says (end x) (commit n)) ≡ true) × (isDone (says (end x) (withdraw n)) ≡ true)
+
+-- a sweep from any row on
+abbrev pub Sweeps : Type 0
+Sweeps = (x : Run) (first quota : ℕ) → first ≤ rows (end x .held .«data») → isDone (says (end x) (sweep first quota)) ≡ true
