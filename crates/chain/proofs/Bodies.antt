@@ -1,17 +1,25 @@
--- Where the body of a version lies, as the code finds it: `at` is the place of its record ("01, Sessions and sight"). Assumes nothing.
+-- Where the body of a version lies, as the code finds it: `at` is the place of its record; and how long it is ("01, Sessions and
+-- sight"). Assumes nothing.
 use mathlib.Core.Path.{_≡_, ap}
+use mathlib.Core.Bool.{Bool, true, false, cond}
 use mathlib.Core.List.{List, []}
 use Prim.Native.Nat.{ℕ, _+_, _-_, _≤_, _<_}
 use native.Mathlib.Omega.{arith}
 use lib.ListN.{length, take, drop}
+use lib.Dec.{ltb}
 use borrow.Author.Tests.{lt-ltb, le-ltb}
 use Rattle.kind.specs.Kind.{rows, entries}
-use Rattle.records.specs.Slot.{slotPlace}
-use Rattle.records.specs.Entry.{entryPlace}
-use Rattle.records.proofs.Bodies.{bodyAt-cut, copyBodyAt-cut, length-bodyAt, length-copyBodyAt}
+use Rattle.records.specs.Slot.{slotPlace, bodyAt}
+use Rattle.records.specs.Entry.{entryPlace, copyBodyAt}
+use Rattle.records.proofs.Bodies.{bodyAt-cut, copyBodyAt-cut, length-bodyAt, length-copyBodyAt, bodyAt-short, copyBodyAt-short}
 use Rattle.chain.specs.declared.Place.{Place}
 use Rattle.chain.specs.declared.Place.the-variants.{Nowhere, Data, Undo}
 use Rattle.chain.specs.Walk.{bodyOf, bodyFrom}
+
+-- the body in the slot of a row of the area
+pub slot-body : (d u : List ℕ) (r : ℕ) → r < rows d → bodyOf (Data r) d u ≡ bodyAt r d
+unfolding bodyOf
+slot-body d u r h = rw (lt-ltb r (rows d) h)
 
 -- a body is 32 bytes long
 pub length-slot-body : (d u : List ℕ) (r : ℕ) → r < rows d → length (bodyOf (Data r) d u) ≡ 32
@@ -21,6 +29,17 @@ length-slot-body d u r h = rw (lt-ltb r (rows d) h) (length-bodyAt r d h)
 pub length-copy-body : (d u : List ℕ) (e : ℕ) → e < entries u → length (bodyOf (Undo e) d u) ≡ 32
 unfolding bodyOf
 length-copy-body d u e h = rw (lt-ltb e (entries u) h) (length-copyBodyAt e u h)
+
+-- or there is none
+none-or : (b : Bool) (body : List ℕ) → length body ≤ 32 → length (cond b body []) ≤ 32
+none-or true body h = h
+none-or false body h = omega arith
+
+pub body-most : (p : Place) (d u : List ℕ) → length (bodyOf p d u) ≤ 32
+unfolding bodyOf
+body-most Nowhere d u = omega arith
+body-most (Data r) d u = none-or (ltb r (rows d)) (bodyAt r d) (bodyAt-short r d)
+body-most (Undo e) d u = none-or (ltb e (entries u)) (copyBodyAt e u) (copyBodyAt-short e u)
 
 -- what is handed back, and where it begins
 abbrev Handed : Place → List ℕ → List ℕ → ℕ × ℕ → ℕ × ℕ → List ℕ → ℕ × ℕ → Type 0

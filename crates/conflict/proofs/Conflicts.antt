@@ -2,14 +2,15 @@
 -- 8 to 10). Assumes nothing.
 use mathlib.Core.Path.{_≡_, refl}
 use mathlib.Core.Logic.{_⊎_, inl, inr}
-use mathlib.Core.Bool.{Bool, true, false, cond}
+use mathlib.Core.Bool.{Bool, true, false, _&&_, _||_, cond}
 use mathlib.Core.List.{List}
 use Prim.Native.Nat.{ℕ, _<_, _≤_}
+use native.Mathlib.Omega.{arith}
 use lib.Dec.{eqb, ltb}
 use borrow.Author.Tests.{eq-eqb, ne-eqb, lt-ltb, le-ltb}
 use Rattle.desk.specs.declared.View.{View}
 use Rattle.sight.specs.declared.Stamp.{Stamp}
-use Rattle.sight.specs.Sight.{committed, sees}
+use Rattle.sight.specs.Sight.{committed, sees, earlier, known}
 use Rattle.sight.specs.Conflict.{ofAnother, conflictOf}
 
 -- "10 if committed, else 9"
@@ -87,3 +88,31 @@ conflict-said v s t =
     (committed (t .create) s)
     (eqb (t .expire) (v .number))
     (committed (t .expire) s)
+
+-- ---- where it says nothing
+
+-- "No expirer: .. creator S earlier, or seen: go on"
+clearBy : (none own before seen ended mine done : Bool)
+    → _≡_ {A = ℕ} (cond none (cond own (cond before 0 8) (cond seen 0 (cond ended 10 9))) (cond mine 8 (cond done 10 9))) 0
+    → (none ≡ true) × (((own && before) || seen) ≡ true)
+clearBy true true true seen ended mine done e = (refl, refl)
+clearBy true true false seen ended mine done e = absurd (omega (arith, e))
+clearBy true false before true ended mine done e = (refl, refl)
+clearBy true false before false true mine done e = absurd (omega (arith, e))
+clearBy true false before false false mine done e = absurd (omega (arith, e))
+clearBy false own before seen ended true done e = absurd (omega (arith, e))
+clearBy false own before seen ended false true e = absurd (omega (arith, e))
+clearBy false own before seen ended false false e = absurd (omega (arith, e))
+
+pub conflict-clear : (v : View) (s : List ℕ) (t : Stamp) → conflictOf v s t ≡ 0 → (eqb (t .expire) 0 ≡ true) × (known v s (t .create) (t .cmd) ≡ true)
+unfolding conflictOf ofAnother known earlier
+conflict-clear v s t e =
+    clearBy
+    (eqb (t .expire) 0)
+    (eqb (t .create) (v .number))
+    (ltb (t .cmd) (v .statement))
+    (sees (v .number) (v .list) s (t .create))
+    (committed (t .create) s)
+    (eqb (t .expire) (v .number))
+    (committed (t .expire) s)
+    e

@@ -1,11 +1,12 @@
 -- Lists of refusals and what comes of a call: a line that holds is met whatever stands behind it, and where nothing is refused no line
--- holds. Once, for the rules of all calls. Assumes nothing.
+-- holds; what is kept, by whether the call is done. Once, for the rules of all calls. Assumes nothing.
 use mathlib.Core.Path.{_≡_, refl, ap}
 use mathlib.Core.Bool.{Bool, true, false, cond}
 use mathlib.Core.List.{List, [], _∷_, _++_}
 use Prim.Native.Nat.{ℕ, zero, suc}
 use native.Mathlib.Omega.{arith}
-use Rattle.ground.specs.Refuse.{firstOf, settle}
+use borrow.Author.Tests.{ne-eqb}
+use Rattle.ground.specs.Refuse.{firstOf, settle, kept}
 
 -- a line that holds is met before what stands behind the list
 pub firstOf-more : (ls rest : List (Bool × ℕ)) (k : ℕ) → firstOf ls ≡ suc k → firstOf (ls ++ rest) ≡ suc k
@@ -32,3 +33,10 @@ module _ {A : Type 0} (done : A) (refused : ℕ → A) where
   pub settled : (n : ℕ) (P : A → Type 0) → (n ≡ 0 → P done) → ((m : ℕ) → P (refused (suc m))) → P (settle n done refused)
   settled zero P f g = f refl
   settled (suc m) P f g = g m
+
+module _ {A : Type 0} (n : ℕ) (new old : A) where
+  pub kept-new : n ≡ 0 → new ≡ kept n new old
+  kept-new done = rw done refl
+
+  pub kept-old : (n ≡ 0 → ⊥) → old ≡ kept n new old
+  kept-old refused = rw (ne-eqb n 0 refused) refl

@@ -3,6 +3,7 @@
 use Prim.Native.Nat.{ℕ, zero, suc}
 use mathlib.Core.Bool.{Bool, cond}
 use mathlib.Core.List.{List, [], _∷_}
+use lib.Dec.{eqb}
 
 -- "Lowest number first, among those that the call can give": the number of the first condition that holds, else 0
 abbrev pub firstOf : List (Bool × ℕ) → ℕ
@@ -13,3 +14,7 @@ firstOf (l ∷ ls) = cond (l .0) (l .1) (firstOf ls)
 abbrev pub settle {ℓ} : {A : Type ℓ} → ℕ → A → (ℕ → A) → A
 settle zero done refused = done
 settle (suc n) done refused = refused (suc n)
+
+-- what a call keeps: the new where its number is 0, and else the old stays
+abbrev pub kept : {A : Type 0} → ℕ → A → A → A
+kept n new old = cond (eqb n 0) new old

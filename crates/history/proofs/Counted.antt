@@ -21,7 +21,7 @@ use Rattle.history.specs.World.{World, Turn, says, after, afterAll}
 use Rattle.history.specs.Asked.{Proper, AllProper, isEmpty, updatesFrom}
 use Rattle.history.proofs.Worlds.{seen, Good}
 use Rattle.history.proofs.Steps.{refusalOf, step-settled}
-use Rattle.history.proofs.Accepts.{row-empty}
+use Rattle.seen.proofs.Rows.{row-empty}
 use Rattle.history.proofs.Answered.{Reads, read-answers}
 use Rattle.history.proofs.Refused.{done-refused}
 use Rattle.history.proofs.Runs.{goes, Stands, stands-call}

@@ -9,8 +9,7 @@ use borrow.Author.Tests.{eqb-true, eqb-false, ltb-true}
 use Rattle.ground.proofs.Ranges.{and-true-right}
 use Rattle.kind.specs.Kind.{rows}
 use Rattle.records.specs.Slot.{slotAt, bodyAt}
-use Rattle.chain.specs.declared.Place.the-variants.{Data}
-use Rattle.chain.specs.Walk.{bodyOf}
+use Rattle.chain.proofs.Bodies.{slot-body}
 use Rattle.machine.specs.Table.{Body, History, hasWritten}
 use Rattle.machine.specs.Lines.{Call, Answer, refused, done, isDone, given, isWrite, heard, historyFrom, insert, withdraw}
 use Rattle.machine.specs.Machine.{Machine, Version, find, isSome, isNil, withdraw as Withdraw}
@@ -24,7 +23,7 @@ use Rattle.seen.specs.Seen.{rowOf}
 use Rattle.history.specs.World.{World, says, after, afterAll, linesOf}
 use Rattle.history.specs.Asked.{Proper, AllProper, noFormat, Standing, isEmpty, standingIn}
 use Rattle.history.proofs.Worlds.{seen}
-use Rattle.history.proofs.Accepts.{row-empty, row-used}
+use Rattle.seen.proofs.Rows.{row-empty, row-used}
 use Rattle.history.proofs.Runs.{goes, Stands, stands-call, stands-calls, leads-calls}
 
 -- ---- what stands in a row is its first version
@@ -34,7 +33,6 @@ asStanding none = none
 asStanding (some f) = some (record { body = f .body; creator = f .creator; creating = f .creating; expirer = f .expirer })
 
 pub standing-is : (w : World) (r : ℕ) → standingIn w r ≡ asStanding (firstOf (rowOf (w .held .«data») (w .held .undo) r))
-unfolding bodyOf
 standing-is w r = go (ltb r (rows d)) refl (isEmpty w r) refl
   where
     d : List ℕ
@@ -54,9 +52,8 @@ standing-is w r = go (ltb r (rows d)) refl (isEmpty w r) refl
         lhs ∙ ap (λ (vs : List Version). asStanding (firstOf vs)) (sym (row-empty d u r (eqb-true (slotAt r d .create) 0 f)))
     go true i false f =
         let lhs : standingIn w r ≡ slot (bodyAt r d) = rw (i, f) in
-        let body : bodyOf (Data r) d u ≡ bodyAt r d = rw i in
         lhs
-        ∙ ap slot (sym body)
+        ∙ ap slot (sym (slot-body d u r (ltb-true r (rows d) i)))
         ∙ ap (λ (vs : List Version). asStanding (firstOf vs)) (sym (row-used d u r (ltb-true r (rows d) i) (eqb-false (slotAt r d .create) 0 f)))
 
 -- ---- withdrawal

@@ -29,7 +29,8 @@ use Rattle.recorded.proofs.Written.{insert-rows, delete-rows, update-rows, leng
 use Rattle.upright.proofs.Calls.{sealable-inserted, sealable-deleted, sealable-updatedData, sealable-updatedUndo}
 use Rattle.history.specs.World.{World, world, turn}
 use Rattle.history.proofs.Worlds.{seen, Good, Goes, stay-allowed}
-use Rattle.history.proofs.Accepts.{row-empty, writable-is}
+use Rattle.seen.proofs.Rows.{row-empty}
+use Rattle.history.proofs.Accepts.{writable-is}
 use Rattle.history.proofs.Sessions.{found}
 
 -- the list of a view has 15 places

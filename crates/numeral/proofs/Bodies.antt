@@ -1,6 +1,6 @@
 -- Laws of bodies as text: each byte is two hex digits, which say it. Assumes nothing.
 use mathlib.Core.Path.{_≡_, refl, sym, ap, ap₂, _∙_}
-use mathlib.Core.Bool.{Bool, true, false, _&&_, _||_}
+use mathlib.Core.Bool.{Bool, true, false, _&&_, _||_, and-false}
 use mathlib.Core.List.{List, [], _∷_, _++_, append-nil}
 use Prim.Native.Nat.{ℕ, zero, suc, _+_, _-_, _*_, _/_, _%_, _≤_, _<_}
 use native.Mathlib.Numerals.{add-one}
@@ -11,7 +11,7 @@ use lib.Dec.{eqb, leb, ltb}
 use borrow.Author.Tests.{ltb-true, ltb-false, lt-ltb, le-ltb, le-leb, lt-leb, eq-eqb, ne-eqb}
 use Rattle.little.specs.Little.{Bytes}
 use Rattle.numeral.specs.Numeral.{nibbleOf, hexAlone, isBody, pairs, bodyIn, glyphOf, hexOf}
-use Rattle.numeral.proofs.Tests.{and-false, or-left, or-right, within-low, within-high}
+use Rattle.numeral.proofs.Tests.{or-left, or-right, within-low, within-high}
 
 -- ---- a digit
 

@@ -1,7 +1,7 @@
 -- Laws of numbers as text: what digits say grows with each, a number is read digit by digit, and written it is its last digits, of which
 -- there are at most 20. Assumes nothing.
 use mathlib.Core.Path.{_≡_, refl, sym, ap, ap₂, _∙_}
-use mathlib.Core.Bool.{Bool, true, false, _&&_, _||_, cond}
+use mathlib.Core.Bool.{Bool, true, false, _&&_, _||_, cond, and-false}
 use mathlib.Core.List.{List, [], _∷_, _++_}
 use Prim.Native.Nat.{ℕ, zero, suc, _+_, _-_, _*_, _/_, _%_, _^_, _≤_, _<_}
 use native.Mathlib.Nat.{pow-suc, div-lt-iff-lt-mul}
@@ -15,7 +15,7 @@ use Rattle.little.proofs.Parts.{sets-append}
 use Rattle.numeral.specs.declared.Number.{Number}
 use Rattle.numeral.specs.declared.Number.the-variants.{Is, Not}
 use Rattle.numeral.specs.Numeral.{digitsAlone, saidFrom, numberIn, spelled, numeralOf}
-use Rattle.numeral.proofs.Tests.{and-false, and-between, and-left, and-right, and-assoc, or-left, or-right}
+use Rattle.numeral.proofs.Tests.{and-between, and-left, and-right, and-assoc, or-left, or-right}
 
 -- ---- saidFrom
 

@@ -5,10 +5,6 @@ use Prim.Native.Nat.{ℕ, _≤_}
 use lib.Dec.{leb}
 use borrow.Author.Tests.{leb-true}
 
-pub and-false : (a : Bool) → a && false ≡ false
-and-false true = refl
-and-false false = refl
-
 pub and-between : (a b : Bool) → a && true && b ≡ (a && b)
 and-between true b = refl
 and-between false b = refl

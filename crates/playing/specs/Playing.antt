@@ -2,14 +2,12 @@
 -- Assumes nothing.
 use Prim.Native.Nat.{ℕ, _+_, _≤_}
 use mathlib.Core.Path.{_≡_}
-use mathlib.Core.Bool.{cond}
 use mathlib.Core.List.{List, [], _∷_}
 use lib.ListN.{length}
 use lib.Seq.{sets}
-use lib.Dec.{eqb}
+use Rattle.ground.specs.Refuse.{kept}
 use Rattle.desk.specs.declared.Desk.{Desk}
 use Rattle.kind.specs.Areas.{Areas, areas}
-use Rattle.chain.specs.declared.Place.{Place}
 use Rattle.chain.specs.Walk.{bodyOf}
 use Rattle.keep.specs.Keep.{formatRule, openRule, sealRule}
 use Rattle.turns.specs.Turns.{beginRule, nextRule, commitRule}
@@ -42,9 +40,6 @@ abbrev pub number : ℕ → List (List ℕ)
 number n = numeralOf n ∷ []
 
 -- format and open hand a desk back where they are accepted; where they are refused the one that was there stays
-abbrev pub kept : ℕ → Desk → Desk → Desk
-kept n new old = cond (eqb n 0) new old
-
 unfoldable pub formatTurn : Areas → Desk → Turn
 formatTurn a d = let r = formatRule a in turn (r .0 .0) [] (kept (r .0 .0) (r .0 .1) d) (r .1)
 

@@ -20,6 +20,7 @@ use Rattle.chain.specs.declared.Place.{Place}
 use Rattle.chain.specs.declared.Place.the-variants.{Nowhere, Data, Undo}
 use Rattle.chain.specs.Chain.{Version, Chain, chainFrom, chainOf}
 use Rattle.chain.specs.Walk.{bodyOf}
+use Rattle.chain.proofs.Bodies.{slot-body}
 use Rattle.chain.proofs.Links.{link-real}
 use Rattle.chain.proofs.Rows.{chainOf-empty, chainOf-used}
 use Rattle.versions.specs.Versions.{older, Fits, Takes}
@@ -59,10 +60,6 @@ older-each d u r used =
     (strand-each u r (from .whole) [] (slotAt r d .«undo_ptr») (from .versions) (chain-strand u r (entries u) [] (slotAt r d .«undo_ptr»)))
 
 -- ---- bodies
-
-slot-body : (d u : List ℕ) (r : ℕ) → r < rows d → bodyOf (Data r) d u ≡ bodyAt r d
-unfolding bodyOf
-slot-body d u r h = rw (lt-ltb r (rows d) h)
 
 -- a version as the machine has it, by its metadata and its body
 abbrev pub held : Slot → List ℕ → Held

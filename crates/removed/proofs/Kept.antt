@@ -15,7 +15,6 @@ use Rattle.records.specs.declared.entry.Entry.{Entry}
 use Rattle.records.specs.Slot.{slotAt, bodyAt}
 use Rattle.records.specs.Entry.{entryAt, copyBodyAt}
 use Rattle.chain.specs.declared.Place.{Place}
-use Rattle.chain.specs.declared.Place.the-variants.{Data}
 use Rattle.chain.specs.Chain.{Version, Chain, chainFrom, chainOf}
 use Rattle.chain.specs.Walk.{bodyOf}
 use Rattle.chain.proofs.Links.{link-real}
@@ -40,11 +39,6 @@ module _ (d u : List ℕ) (q : ℕ) where
   rowOf-outside h = rw (le-ltb q (rows d) h)
 
 -- ---- bodies
-
--- the body in the slot of a row of the area
-pub slot-body : (t : ℕ) (d u : List ℕ) → t < rows d → bodyOf (Data t) d u ≡ bodyAt t d
-unfolding bodyOf
-slot-body t d u h = rw (lt-ltb t (rows d) h)
 
 module _ (d u d′ u′ : List ℕ) (size : pages u′ ≡ pages u) (copies : Copies u u′) where
   -- a version of a chain lies in an entry in use, so its body is kept

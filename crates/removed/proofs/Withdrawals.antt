@@ -16,6 +16,7 @@ use Rattle.chain.specs.declared.Place.{Place}
 use Rattle.chain.specs.declared.Place.the-variants.{Data}
 use Rattle.chain.specs.Chain.{Version, Chain, onto, chainFrom, chainOf}
 use Rattle.chain.specs.Walk.{bodyOf}
+use Rattle.chain.proofs.Bodies.{slot-body}
 use Rattle.chain.proofs.Rows.{slotVersion, chainOf-empty, chainOf-used}
 use Rattle.strands.specs.Strands.{Shaped, Treated, RowIn, RowsIn, Strand, entryIn, rest, onFirst}
 use Rattle.strands.proofs.Apart.{rowIn-treated}
@@ -27,7 +28,7 @@ use Rattle.outcomes.proofs.Outcomes.{undone-turns}
 use Rattle.outcomes.proofs.Undones.{ownEnded, undoneRow-treated, undoneRow-none, chainOf-undoneRow-ended, chainOf-undoneRow-made, bodyAt-undoneRow-made, bodyAt-undoneRow-ended, whole-undoneRow}
 use Rattle.machine.specs.Machine.{Version as Held, expired, expireFirst, since, putBack, undone as undoneRows}
 use Rattle.seen.specs.Seen.{heldOf, allHeld, rowOf}
-use Rattle.removed.proofs.Kept.{heldIn, wholeIn, slot-body, older-kept, within, within-in, rowOf-outside, shaped-after, whole-after, rows-after}
+use Rattle.removed.proofs.Kept.{heldIn, wholeIn, older-kept, within, within-in, rowOf-outside, shaped-after, whole-after, rows-after}
 
 -- ---- lists of versions
 
@@ -86,7 +87,7 @@ module _ (n k : ℕ) (number : 0 < n) (t : ℕ) (d u : List ℕ) (h : RowIn t d 
       ∙ ap
       (λ (b : List ℕ).
       record { create = x .slot .create; cmd = x .slot .cmd; expire = 0; expireCmd = 0; body = b } ∷ allHeld (after .«data») (after .undo) xs)
-      (slot-body t (after .«data») (after .undo) (rowIn-treated treated t h .row) ∙ body)
+      (slot-body (after .«data») (after .undo) t (rowIn-treated treated t h .row) ∙ body)
       ∙ ap (λ (vs : List Held). expired 0 0 (heldOf d u x) ∷ vs)
       (subst (λ (vs : List Version). allHeld (after .«data») (after .undo) (drop 1 vs) ≡ allHeld d u (drop 1 vs)) is
       (older-kept d u (after .«data») (after .undo) (treated .ofRow .size) (treated .copies) t))
@@ -156,7 +157,7 @@ module _ (n k : ℕ) (number : 0 < n) (t : ℕ) (d u : List ℕ) (h : RowIn t d 
           put-back first (behind .versions)
           (ap (λ (c : Chain). c .versions) (chainOf-undoneRow-ended n k t d u h made (ends true e))
           ∙ ap (λ (c : Chain). onFirst (Data t) unexpired (c .versions)) is)
-          (bodyAt-undoneRow-ended n k t d u h made ∙ sym (slot-body t d u (h .row)))
+          (bodyAt-undoneRow-ended n k t d u h made ∙ sym (slot-body d u t (h .row)))
           ∙ sym (by-rule false true made e)
       by false false made e =
           untouched made (ends false e) (ap (λ (c : Chain). allHeld d u (c .versions)) is ∙ sym (by-rule false false made e))

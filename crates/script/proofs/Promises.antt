@@ -12,6 +12,7 @@ use lib.Seq.{drop-length, drop-drop}
 use lib.Dec.{eqb, leb, ltb}
 use borrow.Author.Tests.{eqb-true, ne-eqb, lt-ltb, lt-leb, leb-false}
 use Rattle.ground.proofs.Ranges.{lt-or-le}
+use Rattle.ground.proofs.Refusals.{kept-old}
 use Rattle.span.specs.Span.{before, parts, lacks}
 use Rattle.span.proofs.Spans.{before-length, before-whole, parts-cut, parts-ended, parts-last, lacks-before, parts-alone, parts-ended-append, parts-glued}
 use Rattle.kind.specs.Kind.{lengthOk, lengthsOk}
@@ -33,7 +34,6 @@ use Rattle.line.specs.declared.Call.{Call}
 use Rattle.line.specs.Line.{callOf, callIn as saidIn, ill, fields, longest as longestLine}
 use Rattle.reply.specs.Reply.{longest as longestAnswer}
 use Rattle.playing.specs.Playing.{Turn, lineOf, formatTurn, openTurn, sealTurn, beginTurn, nextTurn, insertTurn, updateTurn, deleteTurn, readTurn, commitTurn, withdrawTurn, sweepTurn, illTurn, turnOf, playRule}
-use Rattle.playing.proofs.Playings.{kept-old}
 use Rattle.script.specs.declared.Station.{Station}
 use Rattle.script.specs.Script.{lent, isFormat, dataLent, undoLent, Carried, carried, turnIn, stepped, callIn, sixteen, answers, output, Run, ran, inLine, lined, restOf, rested, full, runLines, runRule}
 use Rattle.script.proofs.Runs.{full-no, run-full, run-next, run-last}

@@ -6,3 +6,4 @@ pub mod Runs
 pub mod Counts
 pub mod Desks
 pub mod Marks
+pub mod Rows

@@ -5,8 +5,9 @@ use mathlib.Core.Path.{_≡_, refl, ap, subst, _∙_}
 use mathlib.Core.List.{List, [], _∷_}
 use lib.ListN.{length, set}
 use native.Mathlib.Omega.{arith}
-use borrow.Author.Tests.{lt-ltb, le-ltb, ne-eqb}
+use borrow.Author.Tests.{lt-ltb, le-ltb}
 use Rattle.ground.specs.Does.{Does}
+use Rattle.ground.specs.Refuse.{kept}
 use Rattle.kind.specs.Kind.{rows, entries}
 use Rattle.kind.specs.Areas.{Areas}
 use Rattle.desk.specs.declared.Desk.{Desk}
@@ -15,7 +16,7 @@ use Rattle.records.specs.Entry.{entryPlace}
 use Rattle.chain.specs.declared.Place.{Place}
 use Rattle.chain.specs.declared.Place.the-variants.{Nowhere, Data, Undo}
 use Rattle.words.specs.Words.{wordsOf}
-use Rattle.station.specs.Station.{left, kept, liesOf}
+use Rattle.station.specs.Station.{left, liesOf}
 
 -- ---- a call
 
@@ -42,16 +43,9 @@ reads rule b e = record { answers = e; leaves = refl }
 
 -- ---- the desk's words, by whether the call is done
 
-module _ (n : ℕ) (d : Desk) (w : List ℕ) where
-  pub kept-new : {l : List ℕ} → n ≡ 0 → l ≡ wordsOf d → l ≡ kept n d w
-  kept-new done e = rw done e
-
-  pub kept-old : (n ≡ 0 → ⊥) → w ≡ kept n d w
-  kept-old refused = rw (ne-eqb n 0 refused)
-
 -- the answer, as its function says it
-pub kept-by : {n m : ℕ} (d : Desk) (w : List ℕ) {l : List ℕ} → n ≡ m → l ≡ kept n d w → l ≡ kept m d w
-kept-by d w same e = e ∙ ap (λ (n : ℕ). kept n d w) same
+pub kept-by : {n m : ℕ} (d : Desk) (w : List ℕ) {l : List ℕ} → n ≡ m → l ≡ kept n (wordsOf d) w → l ≡ kept m (wordsOf d) w
+kept-by d w same e = e ∙ ap (λ (n : ℕ). kept n (wordsOf d) w) same
 
 -- ---- what is reported, in words that are lent
 

@@ -3,10 +3,10 @@
 use Prim.Native.Nat.{ℕ, _+_}
 use mathlib.Core.Bool.{cond}
 use mathlib.Core.List.{List, [], _∷_}
-use lib.Dec.{eqb, ltb}
+use lib.Dec.{ltb}
+use Rattle.ground.specs.Refuse.{kept}
 use Rattle.kind.specs.Kind.{rows, entries}
 use Rattle.kind.specs.Areas.{Areas, areas}
-use Rattle.desk.specs.declared.Desk.{Desk}
 use Rattle.records.specs.Slot.{slotPlace}
 use Rattle.records.specs.Entry.{entryPlace}
 use Rattle.chain.specs.declared.Place.{Place}
@@ -27,21 +27,18 @@ pub record Left : Type 0 where
 abbrev pub left : Areas → List ℕ → List ℕ → Left
 left a w out = record { lent = a; words = w; reported = out }
 
--- the words change only where the call is done
-abbrev pub kept : ℕ → Desk → List ℕ → List ℕ
-kept n d w = cond (eqb n 0) (wordsOf d) w
-
 -- where a body lies: 1 in the data area, 2 in the undo area, and at which byte of it; 0 nowhere
 unfoldable pub liesOf : Place → List ℕ → List ℕ → ℕ × ℕ
 liesOf Nowhere d u = (0, 0)
 liesOf (Data r) d u = cond (ltb r (rows d)) (1, slotPlace r + 32) (0, 0)
 liesOf (Undo e) d u = cond (ltb e (entries u)) (2, entryPlace e + 48) (0, 0)
 
+-- the words change only where the call is done
 unfoldable pub formatCall : Areas → List ℕ → ℕ × Left
-formatCall a w = let r = formatRule a in (r .0 .0, left (r .1) (kept (r .0 .0) (r .0 .1) w) [])
+formatCall a w = let r = formatRule a in (r .0 .0, left (r .1) (kept (r .0 .0) (wordsOf (r .0 .1)) w) [])
 
 unfoldable pub openCall : Areas → List ℕ → ℕ × Left
-openCall a w = let r = openRule a in (r .0, left a (kept (r .0) (r .1) w) [])
+openCall a w = let r = openRule a in (r .0, left a (kept (r .0) (wordsOf (r .1)) w) [])
 
 unfoldable pub sealCall : Areas → List ℕ → ℕ × Left
 sealCall a w = let r = sealRule a (deskIn w) in (r .0, left (r .1) w [])
@@ -49,10 +46,10 @@ sealCall a w = let r = sealRule a (deskIn w) in (r .0, left (r .1) w [])
 unfoldable pub beginCall : Areas → List ℕ → ℕ × Left
 beginCall a w =
     let r = beginRule a (deskIn w) in
-    (r .0 .0, left (areas (a .«data») (a .undo) (r .1)) (kept (r .0 .0) (r .0 .2) w) (r .0 .1 ∷ []))
+    (r .0 .0, left (areas (a .«data») (a .undo) (r .1)) (kept (r .0 .0) (wordsOf (r .0 .2)) w) (r .0 .1 ∷ []))
 
 unfoldable pub nextCall : Areas → List ℕ → ℕ → ℕ × Left
-nextCall a w x = let r = nextRule a (deskIn w) x in (r .0, left a (kept (r .0) (r .1) w) [])
+nextCall a w x = let r = nextRule a (deskIn w) x in (r .0, left a (kept (r .0) (wordsOf (r .1)) w) [])
 
 unfoldable pub insertCall : Areas → List ℕ → ℕ → List ℕ → ℕ × Left
 insertCall a w x body =
@@ -73,10 +70,10 @@ readCall a w x row =
 unfoldable pub commitCall : Areas → List ℕ → ℕ → ℕ × Left
 commitCall a w x =
     let r = commitRule a (deskIn w) x in
-    (r .0 .0, left (areas (a .«data») (a .undo) (r .1)) (kept (r .0 .0) (r .0 .1) w) [])
+    (r .0 .0, left (areas (a .«data») (a .undo) (r .1)) (kept (r .0 .0) (wordsOf (r .0 .1)) w) [])
 
 unfoldable pub withdrawCall : Areas → List ℕ → ℕ → ℕ × Left
-withdrawCall a w x = let r = withdrawRule a (deskIn w) x in (r .0 .0, left (r .1) (kept (r .0 .0) (r .0 .1) w) [])
+withdrawCall a w x = let r = withdrawRule a (deskIn w) x in (r .0 .0, left (r .1) (kept (r .0 .0) (wordsOf (r .0 .1)) w) [])
 
 unfoldable pub sweepCall : Areas → List ℕ → ℕ → ℕ → ℕ × Left
 sweepCall a w first quota =

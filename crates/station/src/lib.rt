@@ -7,8 +7,10 @@ ghost use mathlib.Core.Path.{_≡_};
 ghost use mathlib.Core.List.{[], _∷_};
 ghost use lib.ListN.{length};
 ghost use Rattle.ground.specs.Does.{Does};
+ghost use Rattle.ground.specs.Refuse.{kept};
 ghost use Rattle.kind.specs.Areas.{areas};
-ghost use Rattle.station.specs.Station.{left, kept, liesOf, formatCall, openCall, sealCall, beginCall, nextCall, insertCall, updateCall, deleteCall, readCall, commitCall, withdrawCall, sweepCall};
+ghost use Rattle.words.specs.Words.{wordsOf};
+ghost use Rattle.station.specs.Station.{left, liesOf, formatCall, openCall, sealCall, beginCall, nextCall, insertCall, updateCall, deleteCall, readCall, commitCall, withdrawCall, sweepCall};
 
 // Where a body lies: 0 nowhere, 1 in the data area, 2 in the undo area, and at which byte of it.
 struct Spot {
@@ -43,7 +45,7 @@ fn put_three(out: &mut [u64], a: u64, b: u64, c: u64)
 // Writes the desk that a call hands back, where it is done; the words of a refused call stay.
 fn put_kept(words: &mut [u64], code: u32, new: Desk)
     requires { ⌜ length (now words) ≡ 273 ⌝ }
-    ensures { λ _. ⌜ now (words .exit) ≡ kept code new (now (words .entry)) ⌝ }
+    ensures { λ _. ⌜ now (words .exit) ≡ kept code (wordsOf new) (now (words .entry)) ⌝ }
 {
     if code == 0 {
         words::put_desk(words, new);

@@ -32,7 +32,7 @@ use Rattle.status.specs.declared.Status.the-variants.{InWork}
 use Rattle.status.specs.Status.{statusShift, statusOf, statusAt}
 use Rattle.status.proofs.StatusLaws.{unit-pos, statusAt-page}
 use Rattle.whole.specs.Whole.{checksumOf, pageRight, headerRight, sealedPage, blankPage, freshPage}
-use Rattle.page.proofs.Headers.{length-putField, bytes-putField, pageAt-putField-same, pageAt-putField-other, statusAt-putField}
+use Rattle.page.proofs.Headers.{length-putField, pageAt-putField-same, pageAt-putField-other, statusAt-putField}
 use Rattle.page.proofs.Counts.{recordAt-putField}
 use Rattle.whole.proofs.Wholes.{length-blankPage}
 use Rattle.whole.proofs.Headers.{itemsIn-header, headerRight-checksum}
@@ -58,10 +58,6 @@ checksumOf-store page v =
 pub length-sealedPage : (p : ℕ) (s : List ℕ) → length (sealedPage p s) ≡ length s
 unfolding sealedPage
 length-sealedPage p s = length-putField checksum p (checksumOf (pageAt p s)) s
-
-pub bytes-sealedPage : (p : ℕ) (s : List ℕ) → Bytes s → Bytes (sealedPage p s)
-unfolding sealedPage
-bytes-sealedPage p s h = bytes-putField checksum p (checksumOf (pageAt p s)) s h
 
 pub pageAt-sealedPage-same : (p : ℕ) (s : List ℕ) → pageAt p (sealedPage p s) ≡ sets (pageAt p s) 20 (digits 4 (checksumOf (pageAt p s)))
 unfolding sealedPage

@@ -7,7 +7,8 @@ use lib.ListN.{length}
 use Rattle.chain.specs.Walk.{bodyOf}
 use Rattle.numeral.specs.Numeral.{numeralOf, hexOf}
 use Rattle.playing.specs.Playing.{readTurn}
-use Rattle.playing.proofs.Playings.{plays, body-most}
+use Rattle.chain.proofs.Bodies.{body-most}
+use Rattle.playing.proofs.Playings.{plays}
 use borrow.Author.Needs.{needs}
 use Rattle.playing.proofs.read.Statement.{statement}
 use Rattle.playing.proofs.read.Tie as tie

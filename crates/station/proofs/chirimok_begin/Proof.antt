@@ -4,7 +4,9 @@ use mathlib.Core.List.{List, [], _∷_}
 use Rattle.kind.specs.Areas.{areas}
 use Rattle.desk.specs.declared.Desk.{Desk}
 use Rattle.turns.specs.Turns.{beginRule}
-use Rattle.station.specs.Station.{kept, beginCall}
+use Rattle.ground.specs.Refuse.{kept}
+use Rattle.words.specs.Words.{wordsOf}
+use Rattle.station.specs.Station.{beginCall}
 use Rattle.station.proofs.Calls.{calls, on-desk, kept-by}
 use borrow.Author.Needs.{needs}
 use Rattle.station.proofs.chirimok_begin.Statement.{statement}
@@ -39,7 +41,7 @@ returns c =
     calls
     (λ (y : ℕ × ℕ × Desk). y .0)
     (λ (s : List ℕ). areas (start .args .«data» .now) (start .args .undo .now) s)
-    (λ (y : ℕ × ℕ × Desk). kept (y .0) (y .2) (start .args .desk .now))
+    (λ (y : ℕ × ℕ × Desk). kept (y .0) (wordsOf (y .2)) (start .args .desk .now))
     (λ (y : ℕ × ℕ × Desk). y .1 ∷ [])
     _
     (on-desk (λ (d : Desk). beginRule lent d) (told .desk-in .ensures) (called .begin .ensures))

@@ -5,7 +5,9 @@ use mathlib.Core.List.{List, []}
 use Rattle.kind.specs.Areas.{areas}
 use Rattle.desk.specs.declared.Desk.{Desk}
 use Rattle.turns.specs.Turns.{commitRule}
-use Rattle.station.specs.Station.{kept, commitCall}
+use Rattle.ground.specs.Refuse.{kept}
+use Rattle.words.specs.Words.{wordsOf}
+use Rattle.station.specs.Station.{commitCall}
 use Rattle.station.proofs.Calls.{calls, on-desk, kept-by}
 use borrow.Author.Needs.{needs}
 use Rattle.station.proofs.chirimok_commit.Statement.{statement}
@@ -37,7 +39,7 @@ returns c =
     calls
     (λ (y : ℕ × Desk). y .0)
     (λ (s : List ℕ). areas (start .args .«data» .now) (start .args .undo .now) s)
-    (λ (y : ℕ × Desk). kept (y .0) (y .1) (start .args .desk .now))
+    (λ (y : ℕ × Desk). kept (y .0) (wordsOf (y .1)) (start .args .desk .now))
     (λ (y : ℕ × Desk). [])
     _
     (on-desk (λ (d : Desk). commitRule lent d (start .args .session)) (told .desk-in .ensures) (called .commit .ensures))

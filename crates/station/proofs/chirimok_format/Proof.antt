@@ -4,7 +4,9 @@ use mathlib.Core.Path.{refl}
 use mathlib.Core.List.{[]}
 use Rattle.kind.specs.Areas.{Areas}
 use Rattle.desk.specs.declared.Desk.{Desk}
-use Rattle.station.specs.Station.{kept, formatCall}
+use Rattle.ground.specs.Refuse.{kept}
+use Rattle.words.specs.Words.{wordsOf}
+use Rattle.station.specs.Station.{formatCall}
 use Rattle.station.proofs.Calls.{calls, kept-by}
 use borrow.Author.Needs.{needs}
 use Rattle.station.proofs.chirimok_format.Statement.{statement}
@@ -37,7 +39,7 @@ returns c =
     calls
     (λ (y : ℕ × Desk). y .0)
     (λ (a : Areas). a)
-    (λ (y : ℕ × Desk). kept (y .0) (y .1) (start .args .desk .now))
+    (λ (y : ℕ × Desk). kept (y .0) (wordsOf (y .1)) (start .args .desk .now))
     (λ (y : ℕ × Desk). [])
     _
     (called .format .ensures)

@@ -1,7 +1,7 @@
 -- `station::put_kept` meets its contract, by whether the call is done. Assumes nothing.
-use mathlib.Core.Path.{_≡_}
+use mathlib.Core.Path.{_≡_, _∙_}
 use native.Mathlib.Omega.{arith}
-use Rattle.station.proofs.Calls.{kept-new, kept-old}
+use Rattle.ground.proofs.Refusals.{kept-new, kept-old}
 use borrow.Author.Needs.{needs}
 use Rattle.station.proofs.put_kept.Statement.{statement}
 use Rattle.station.proofs.put_kept.Tie as tie
@@ -15,7 +15,7 @@ same-length c = search needs
 returns : tie.Need-returns
 returns c =
     let done : c .before .before .before .before .before .before .args .code ≡ 0 = omega arith in
-    kept-new _ _ _ done (c .before .before .put-desk .ensures)
+    c .before .before .put-desk .ensures ∙ kept-new _ _ _ done
 
 returns-2 : tie.Need-returns-2
 returns-2 c =
