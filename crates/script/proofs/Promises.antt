@@ -35,7 +35,7 @@ use Rattle.line.specs.Line.{callOf, callIn as saidIn, ill, fields, longest as l
 use Rattle.reply.specs.Reply.{longest as longestAnswer}
 use Rattle.playing.specs.Playing.{Turn, lineOf, formatTurn, openTurn, sealTurn, beginTurn, nextTurn, insertTurn, updateTurn, deleteTurn, readTurn, commitTurn, withdrawTurn, sweepTurn, illTurn, turnOf, playRule}
 use Rattle.script.specs.declared.Station.{Station}
-use Rattle.script.specs.Script.{lent, isFormat, dataLent, undoLent, Carried, carried, turnIn, stepped, callIn, sixteen, answers, output, Run, ran, inLine, lined, restOf, rested, full, runLines, runRule}
+use Rattle.script.specs.Script.{lent, isFormat, dataLent, undoLent, Carried, carried, turnIn, stepped, callIn, sixteen, answers, output, Run, ran, inLine, lined, restOf, rested, full, runLines, runRule, lentTo}
 use Rattle.script.proofs.Runs.{full-no, run-full, run-next, run-last}
 
 true-false : (t : Bool) → t ≡ true → t ≡ false → ⊥
@@ -380,10 +380,6 @@ module _ (fits : (k : Carried) (c : Call) → length (lineOf (turnIn k c)) ≤ l
       taken = omega (arith, all .0)
 
 -- ---- before an accepted format, and where a line is refused
-
--- what a call is lent
-abbrev pub lentTo : Carried → Call → Areas
-lentTo k c = areas (take (dataLent c (k .station) (k .lent .«data»)) (k .lent .«data»)) (take (undoLent c (k .station) (k .lent .undo)) (k .lent .undo)) (k .lent .status)
 
 module _ (a : Areas) (d : Desk) (x y : ℕ) (body : List ℕ) where
   one : lengthsOk (length (a .«data»)) (length (a .undo)) (length (a .status)) ≡ false

@@ -66,13 +66,17 @@ abbrev pub station : Turn → Bool → ℕ → ℕ → Station → Station
 station t formats n m s =
     record { desk = t .desk; «data» = cond (formats && eqb (t .code) 0) n (s .«data»); undo = cond (formats && eqb (t .code) 0) m (s .undo); long = false }
 
--- the call on what it is lent
+-- what a call is lent of what is carried
+abbrev pub lentTo : Carried → Call → Areas
+lentTo k c =
+    areas
+    (take (dataLent c (k .station) (k .lent .«data»)) (k .lent .«data»))
+    (take (undoLent c (k .station) (k .lent .undo)) (k .lent .undo))
+    (k .lent .status)
+
+-- the call on it
 unfoldable pub turnIn : Carried → Call → Turn
-turnIn k c =
-    playRule
-    (areas (take (dataLent c (k .station) (k .lent .«data»)) (k .lent .«data»)) (take (undoLent c (k .station) (k .lent .undo)) (k .lent .undo)) (k .lent .status))
-    (k .station .desk)
-    c
+turnIn k c = playRule (lentTo k c) (k .station .desk) c
 
 -- and what is carried on: what was not lent is as it was
 unfoldable pub stepped : Carried → Call → Carried

@@ -1,0 +1,117 @@
+-- What a script's lines promise: an ill-formed line prints 16 and leaves the world; behind an accepted format a read prints the body that
+-- the history alone says, with a count, or 7 where it says none. Assumes nothing.
+use Prim.Native.Nat.{ℕ, _/_, _≤_, _<_}
+use native.Mathlib.Omega.{arith}
+use mathlib.Core.Path.{_≡_, refl, sym, ap, subst, subst₂, _∙_}
+use mathlib.Core.Bool.{Bool, true, false, cond}
+use mathlib.Core.Option.{Option, none, some}
+use mathlib.Core.List.{List, [], _∷_}
+use lib.ListN.{length}
+use Rattle.little.proofs.AllBytes.{bytes-zeros}
+use Rattle.sessions.proofs.Changes.{isOpen-open}
+use Rattle.kind.specs.Kind.{rows}
+use Rattle.kind.proofs.Lengths.{all-lent}
+use Rattle.machine.specs.Table.{Body, History, plainTable, openIn}
+use Rattle.machine.specs.Lines.{Answer, read}
+use Rattle.machine.proofs.Basics.{true-false}
+use Rattle.history.specs.World.{World, says}
+use Rattle.history.specs.Asked.{history, Answers}
+use Rattle.history.proofs.Runs.{Stands, stands-end}
+use Rattle.history.proofs.Promises.{opened-is, reading}
+use Rattle.line.specs.declared.Verb.{Verb}
+use Rattle.line.specs.declared.Verb.the-variants.{Read, IllFormed}
+use Rattle.line.specs.declared.Call.{Call as Said}
+use Rattle.line.specs.Line.{callOf, call, ill, noBody, Proper, lineOf as written}
+use Rattle.line.proofs.Back.{call-back}
+use Rattle.playing.specs.Playing.{lineOf}
+use Rattle.script.specs.Script.{Carried, turnIn, stepped, callIn, sixteen, answers, lentTo}
+use Rattle.scripted.specs.Scripted.{worldIn, callBy, lineFor, afterLine, printed, onward, historyIn, formats, Since, Prints, ScriptReading, OutputReading}
+use Rattle.scripted.proofs.Steps.{line-step}
+use Rattle.scripted.proofs.Histories.{answers-behind, script-run}
+
+-- ---- an ill-formed line
+
+pub line-ill : (k : Carried) (c : Said) → c .verb ≡ IllFormed → (worldIn (stepped k c) ≡ worldIn k) × (lineOf (turnIn k c) ≡ sixteen)
+line-ill k c e = (
+  line-step k c .0 ∙ ap (λ (v : Verb). afterLine (worldIn k) (callBy v (lentTo k c) (c .first) (c .second) (c .body))) e,
+  line-step k c .1 ∙ ap (λ (v : Verb). printed (worldIn k) (callBy v (lentTo k c) (c .first) (c .second) (c .body))) e,
+)
+
+-- ---- a read
+
+-- the theorem of reading, of a world that lines lead to
+module _ (w : World) (h : History) (s : Since w h) (n : ℕ) (o : openIn h n ≡ true) (r : ℕ) (inside : r < rows (w .held .«data»)) where
+  answered : Answers (plainTable h n r) (says w (read n r))
+  answered =
+      subst (λ (h : History). openIn h n ≡ true → Answers (plainTable h n r) (says w (read n r))) (s .happened)
+      (λ o. subst (λ (w : World). r < rows (w .held .«data») → Answers (plainTable (history (s .run)) n r) (says w (read n r))) (s .ends)
+      (reading (s .run) n o r) inside)
+      o
+
+-- what is answered is printed
+prints : (n r : ℕ) (b : Option Body) (a : Answer) → Answers b a → Prints b (lineFor (read n r) a)
+prints n r none a e = ap (lineFor (read n r)) e
+prints n r (some b) a (k, e) = (k, ap (lineFor (read n r)) e)
+
+-- behind a line that has ended no line has been found too long
+short : (ls : List (List ℕ)) (k : Carried) → k .station .long ≡ false → onward k ls .station .long ≡ false
+unfolding stepped
+short [] k e = e
+short (l ∷ ls) k e = short ls (stepped k (callIn k l)) refl
+
+ended : (ls : List (List ℕ)) (k : Carried) → formats k ls ≡ true → onward k ls .station .long ≡ false
+unfolding stepped
+ended [] k e = true-false false e refl
+ended (l ∷ ls) k e = short ls (stepped k (callIn k l)) refl
+
+pub script-reading : ScriptReading
+script-reading k ls f n o r inside l e =
+    subst (λ (c : Said). Prints (plainTable (historyIn k ls) n r) (lineOf (turnIn (onward k ls) c))) (sym said)
+    (subst (Prints (plainTable (historyIn k ls) n r)) (sym (line-step (onward k ls) (call Read n r noBody) .1))
+    (prints n r (plainTable (historyIn k ls) n r) (says (worldIn (onward k ls)) (read n r))
+    (answered (worldIn (onward k ls)) (historyIn k ls) (script-run k ls f) n o r inside)))
+  where
+    said : callIn (onward k ls) l ≡ call Read n r noBody
+    said = ap (λ (b : Bool). cond b ill (callOf l)) (ended ls k f) ∙ e
+
+pub output-reading : OutputReading
+unfolding answers
+output-reading k ls f n o r inside l e text m ms cut = (
+  lineOf (turnIn (onward k ls) (callIn (onward k ls) l)),
+  script-reading k ls f n o r inside l e,
+  ap (answers k) cut ∙ answers-behind ls k l (m ∷ ms),
+)
+
+-- such a line can be written: the numbers of an open session and of a row are below 2^64
+pub read-written : (k : Carried) (ls : List (List ℕ)) → formats k ls ≡ true
+    → (n : ℕ) → openIn (historyIn k ls) n ≡ true
+    → (r : ℕ) → r < rows (worldIn (onward k ls) .held .«data»)
+    → callOf (written (call Read n r noBody)) ≡ call Read n r noBody
+read-written k ls f n o r inside = call-back (call Read n r noBody) proper
+  where
+    w : World
+    w = worldIn (onward k ls)
+
+    since : Since w (historyIn k ls)
+    since = script-run k ls f
+
+    stands : Stands w (historyIn k ls)
+    stands = subst₂ Stands (since .ends) (since .happened) (stands-end (since .run))
+
+    few : n < 32576
+    few = isOpen-open (w .desk) n (stands .good .sound) (opened-is w (historyIn k ls) stands n ∙ o) .last
+
+    pages : length (w .held .«data») / 8192 ≤ 64
+    pages = all-lent (length (w .held .«data»)) (length (w .held .undo)) (length (w .held .status)) (stands .good .lengths) .inData .few
+
+    proper : Proper (call Read n r noBody)
+    proper = record {
+      named = λ e. let z : _≡_ {A = ℕ} 0 1 = cc in omega arith;
+      first-fits = omega (arith, few);
+      second-fits = omega (arith, inside, pages);
+      body-long = refl;
+      body-bytes = bytes-zeros 32;
+      first-unsaid = λ h. absurd (omega (arith, h));
+      second-unsaid = λ h. absurd (omega (arith, h));
+      body-unsaid = λ h. refl;
+    }
