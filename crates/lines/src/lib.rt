@@ -14,13 +14,11 @@ pub struct Reader<'a> {
     pub at: usize,
 }
 
-const NEWLINE: u8 = 10;
-
 // The work: where the line that begins at a place of a text ends.
 pub fn line_at(text: &[u8], at: usize) -> Line
     ensures { λ r. ⌜ r ≡ lineAt (now (text .entry)) at ⌝ }
 {
-    let end = span::find(text, at, NEWLINE);
+    let end = span::find(text, at, span::NEWLINE);
     if end < text.len() {
         Line::Ended(end)
     } else {

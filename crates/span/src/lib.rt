@@ -4,6 +4,10 @@ ghost use Prim.Native.Nat.{_+_, _≤_};
 ghost use lib.ListN.{length, drop};
 ghost use Rattle.span.specs.Span.{before};
 
+// What parts the fields of a line, and what ends one.
+pub const TAB: u8 = 9;
+pub const NEWLINE: u8 = 10;
+
 // Where the next b stands, from a place on; at the text's end where there is none.
 pub fn find(s: &[u8], from: usize, b: u8) -> usize
     ensures { λ r. ⌜ r ≡ from + length (before b (drop from (now (s .entry)))) ⌝ }
