@@ -6,6 +6,7 @@ ghost use Rattle.span.specs.Span.{before};
 
 // What parts the fields of a line, and what ends one.
 pub const TAB: u8 = 9;
+
 pub const NEWLINE: u8 = 10;
 
 // Where the next b stands, from a place on; at the text's end where there is none.
