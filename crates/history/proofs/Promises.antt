@@ -25,7 +25,7 @@ use Rattle.seen.proofs.Knowing.{sessionOf, sees-is}
 use Rattle.seen.proofs.Desks.{find-open, find-closed}
 use Rattle.history.specs.World.{World, says, after, afterAll, linesOf}
 use Rattle.history.specs.Asked.{Proper, AllProper, start, end, history, allSpare, bodyRead, Answers, standingIn}
-use Rattle.history.specs.Theorems.{Reading, ReadingOutside, NothingElse, Restores, Empties, Spares, NoSix, SealedOpens, Count, RefusedLeaves, SeesExactly, ByNumber, Formats, Begins, Inserts, Ends, Sweeps}
+use Rattle.history.specs.Theorems.{Reading, ReadingOutside, NothingElse, Restores, Empties, Spares, NoSix, SealedOpens, Count, RefusedLeaves, SeesExactlyWhenCommittedBefore, ByNumber, Formats, Begins, Inserts, Ends, Sweeps}
 use Rattle.history.proofs.Worlds.{seen}
 use Rattle.history.proofs.Writes.{view-few}
 use Rattle.history.proofs.Answered.{Reads, read-answers, read-outside}
@@ -105,9 +105,9 @@ reading-outside x n o r out = (
   read-outside (end x) (stands-end x .good) n r (on-desk (end x) (history x) (stands-end x) n o) out,
 )
 
-pub sees-exactly : SeesExactly
+pub sees-exactly-when-committed-before : SeesExactlyWhenCommittedBefore
 unfolding session
-sees-exactly x n o y =
+sees-exactly-when-committed-before x n o y =
     sym (sees-is (viewIn (end x .desk) n) (end x .held .status) y (view-few (end x .desk) n))
     ∙ sees-committed-before (stands-end x .reach) n (session (end x) (history x) (stands-end x) n o) (session-is (end x) (history x) (stands-end x) n o) y
 

@@ -63,8 +63,8 @@ abbrev pub RefusedLeaves : Type 0
 RefusedLeaves = (w : World) (c : Call) (n : ℕ) → says w c ≡ refused n → after w c ≡ w
 
 -- THE LAW UNDER THEM: S sees X exactly when X committed before S began
-abbrev pub SeesExactly : Type 0
-SeesExactly = (x : Run) (n : ℕ) → openIn (history x) n ≡ true → (y : ℕ)
+abbrev pub SeesExactlyWhenCommittedBefore : Type 0
+SeesExactlyWhenCommittedBefore = (x : Run) (n : ℕ) → openIn (history x) n ≡ true → (y : ℕ)
     → sees (viewIn (end x .desk) n .number) (viewIn (end x .desk) n .list) (end x .held .status) y ≡ committedBefore (history x) y n
 
 -- replayed in the order of numbers instead of commits, the plain table is the same
