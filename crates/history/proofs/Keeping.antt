@@ -13,10 +13,9 @@ use Rattle.ground.proofs.Ranges.{all-at, and-true-right}
 use Rattle.desk.specs.Desk.{firstNumber, freshDesk}
 use Rattle.desk.specs.Sound.{sound}
 use Rattle.desk.proofs.Sounds.{fresh-sound}
-use Rattle.kind.specs.declared.Kind.{Kind}
 use Rattle.kind.specs.Kind.{lengthsOk, pages, dataKind, undoKind, statusKind}
 use Rattle.kind.specs.Areas.{Areas, areas, badLength}
-use Rattle.kind.proofs.Lengths.{Lent, all-lent}
+use Rattle.kind.proofs.Lengths.{all-lent}
 use Rattle.whole.proofs.Rights.{fitting-data, fitting-undo, fitting-status}
 use Rattle.status.specs.declared.Status.{Status}
 use Rattle.status.specs.declared.Status.the-variants.{InWork, Committed, Withdrawn, Reserved}
@@ -25,7 +24,7 @@ use Rattle.sight.specs.Sight.{standing}
 use Rattle.keep.specs.Whole.{freshArea, areaRight, highest, ended, allEnded, storeRight}
 use Rattle.keep.specs.Keep.{formatRefusal, formatted, sealed, openRefusal}
 use Rattle.keep.proofs.Pages.{highest-storeRight}
-use Rattle.keep.proofs.Promises.{length-freshArea, highest-freshArea, length-sealedArea, highest-sealedArea}
+use Rattle.keep.proofs.Promises.{length-refreshed, highest-freshArea, length-sealedArea, highest-sealedArea}
 use Rattle.machine.specs.Lines.{format, opens, seal, done}
 use Rattle.machine.specs.Machine.{InWork as Working, empty}
 use Rattle.machine.proofs.Follows.{machine-ext, no-work-no-session}
@@ -66,10 +65,6 @@ store-ended a right n p l =
 
 -- ---- format
 
--- a formatted area is as long as it was
-refreshed : (k : Kind) (most : ℕ) (s : List ℕ) → Lent most (length s) → length (freshArea k (pages s)) ≡ length s
-refreshed k most s l = length-freshArea k (pages s) ∙ sym (l .whole)
-
 module _ (d u s : List ℕ) (lent : badLength (areas d u s) ≡ false) where
   abbrev made : World
   made = world (formatted (areas d u s)) (freshDesk firstNumber)
@@ -85,7 +80,7 @@ module _ (d u s : List ℕ) (lent : badLength (areas d u s) ≡ false) where
   formatted-good =
       let l = all-lent (length d) (length u) (length s) allowed in
       record {
-        lengths = stay-allowed (refreshed dataKind 64 d (l .inData)) (refreshed undoKind 64 u (l .inUndo)) (refreshed statusKind 1 s (l .inStatus)) allowed;
+        lengths = stay-allowed (length-refreshed dataKind 64 d (l .inData)) (length-refreshed undoKind 64 u (l .inUndo)) (length-refreshed statusKind 1 s (l .inStatus)) allowed;
         sound = fresh-sound 1 (omega arith) (omega arith);
         long = fresh-long 1;
         whole = fresh-whole (pages d) (pages u);

@@ -8,7 +8,6 @@ use lib.Dec.{eqb}
 use lib.ListN.{length, getD}
 use borrow.Author.Tests.{eqb-false}
 use Rattle.ground.proofs.Refusals.{firstOf-none}
-use Rattle.ground.proofs.Ranges.{count-le}
 use Rattle.columns.specs.Limits.{sessions, lastStatement}
 use Rattle.places.specs.Open.{openCount, placeIn, isOpen}
 use Rattle.desk.specs.Desk.{lastNext}
@@ -30,6 +29,7 @@ use Rattle.machine.proofs.Follows.{machine-ext}
 use Rattle.seen.specs.Seen.{openSessions}
 use Rattle.history.specs.World.{World, world, turn}
 use Rattle.seen.proofs.Desks.{find-open, moved-sessions, moved-long, closed-sessions, closed-long, begun-sessions, begun-long}
+use Rattle.seen.proofs.Counts.{open-at-most}
 use Rattle.seen.proofs.Standings.{standings-put, standings-field}
 use Rattle.upright.proofs.Statuses.{sealable-status, sealable-begun, highest-status, highest-begun}
 use Rattle.history.proofs.Worlds.{seen, Good, Goes, stay-allowed}
@@ -108,7 +108,7 @@ module _ (w : World) (g : Good w) where
 
   pub begins : beginRefusal (w .held) (w .desk) ≡ 0
       → Goes w Begin (turn (done number 0 []) (world (areas (w .held .«data») (w .held .undo) noted) (begun (w .desk))))
-  unfolding beginRefusal begun openCount
+  unfolding beginRefusal begun
   begins ok =
       let l = firstOf-none (badLength (w .held)) 1 _ (λ z. omega arith) ok in
       let b = firstOf-none (not (sound (w .desk))) 2 _ (λ z. omega arith) (l .1) in
@@ -117,7 +117,7 @@ module _ (w : World) (g : Good w) where
       let parts = sound-parts (w .desk) (g .sound) in
       let few : number < 32576 = omega (arith, parts .last, eqb-false (w .desk .next) lastNext (n .0)) in
       let room : openCount (w .desk .numbers) < 16 =
-      omega (arith, count-le (λ (k : ℕ). not (eqb (getD (w .desk .numbers) k 0) 0)) 16, eqb-false (openCount (w .desk .numbers)) sessions (c .0)) in
+      omega (arith, open-at-most (w .desk .numbers), eqb-false (openCount (w .desk .numbers)) sessions (c .0)) in
       let page : length (w .held .status) ≡ 8192 = status-length (length (w .held .«data»)) (length (w .held .undo)) (length (w .held .status)) (g .lengths) in
       let longer : length (putStatus number InWork (w .held .status)) ≡ length (w .held .status) = length-putStatus number InWork (w .held .status) in
       record {

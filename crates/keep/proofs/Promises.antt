@@ -223,7 +223,8 @@ open-accepts : (a : Areas)
 unfolding openRule openRefusal storeRight
 open-accepts a l d u s t e = rw (l, d, u, s, t, e)
 
-length-refreshed : (k : Kind) (most : ℕ) (s : List ℕ) → Lent most (length s) → length (freshArea k (pages s)) ≡ length s
+-- a formatted area is as long as it was
+pub length-refreshed : (k : Kind) (most : ℕ) (s : List ℕ) → Lent most (length s) → length (freshArea k (pages s)) ≡ length s
 length-refreshed k most s l = length-freshArea k (pages s) ∙ sym (l .whole)
 
 pub open-format : (a : Areas) → badLength a ≡ false → openRule (formatted a) ≡ (0, freshDesk 1)

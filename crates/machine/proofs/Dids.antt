@@ -6,6 +6,7 @@ use native.Mathlib.Omega.{arith}
 use lib.Dec.{eqb}
 use lib.ListN.{length}
 use borrow.Author.Tests.{eqb-true}
+use Rattle.ground.proofs.Ranges.{and-true-left, and-true-right}
 use Rattle.machine.specs.Table.{History}
 use Rattle.machine.specs.Lines.{Call, Answer, refused, done, told, isDone, isUpdate, isWrite, format, opens, seal, read, begin as Begin, next as Next, insert as Insert, update as Update, delete as Delete, commit as Commit, withdraw as Withdraw, sweep as Sweep}
 use Rattle.machine.specs.Machine.{Machine, empty, isNil, Step, begin, next, insert, update, delete, commit, withdraw, sweep, accept, effect}
@@ -69,11 +70,6 @@ pub record Wrote (n r : ℕ) (m : Machine) (c : Call) (a : ℕ) (m′ : Machine)
   pub leaves : effect m step ≡ m′
   pub tells : (h : History) → add m step h ≡ told h c a
 
-both-true : (a b : Bool) → (a && b) ≡ true → (a ≡ true) × (b ≡ true)
-both-true true true e = (refl, refl)
-both-true true false e = true-false false e refl
-both-true false b e = true-false false e refl
-
 pub did-write : (n r : ℕ) (m : Machine) (c : Call) (a : ℕ) (m′ : Machine) → isWrite n r c a ≡ true → DidCall m c a m′ → Wrote n r m c a m′
 did-write n r m (format d u s) a m′ w e = true-false false w refl
 did-write n r m opens a m′ w e = true-false false w refl
@@ -81,14 +77,11 @@ did-write n r m seal a m′ w e = true-false false w refl
 did-write n r m Begin a m′ w e = true-false false w refl
 did-write n r m (Next x) a m′ w e = true-false false w refl
 did-write n r m (Insert x y) a m′ w e =
-    let t = both-true (eqb x n) (eqb a r) w in
-    record { step = insert x a y; writes = (eqb-true x n (t .0), eqb-true a r (t .1)); accepts = e .0; leaves = e .1; tells = λ h. refl }
+    record { step = insert x a y; writes = (eqb-true x n (and-true-left (eqb x n) (eqb a r) w), eqb-true a r (and-true-right (eqb x n) (eqb a r) w)); accepts = e .0; leaves = e .1; tells = λ h. refl }
 did-write n r m (Update x q y) a m′ w e =
-    let t = both-true (eqb x n) (eqb q r) w in
-    record { step = update x q y; writes = (eqb-true x n (t .0), eqb-true q r (t .1)); accepts = e .0; leaves = e .1; tells = λ h. refl }
+    record { step = update x q y; writes = (eqb-true x n (and-true-left (eqb x n) (eqb q r) w), eqb-true q r (and-true-right (eqb x n) (eqb q r) w)); accepts = e .0; leaves = e .1; tells = λ h. refl }
 did-write n r m (Delete x q) a m′ w e =
-    let t = both-true (eqb x n) (eqb q r) w in
-    record { step = delete x q; writes = (eqb-true x n (t .0), eqb-true q r (t .1)); accepts = e .0; leaves = e .1; tells = λ h. refl }
+    record { step = delete x q; writes = (eqb-true x n (and-true-left (eqb x n) (eqb q r) w), eqb-true q r (and-true-right (eqb x n) (eqb q r) w)); accepts = e .0; leaves = e .1; tells = λ h. refl }
 did-write n r m (read x q) a m′ w e = true-false false w refl
 did-write n r m (Commit x) a m′ w e = true-false false w refl
 did-write n r m (Withdraw x) a m′ w e = true-false false w refl

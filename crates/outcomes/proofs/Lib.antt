@@ -1,2 +1,3 @@
 pub mod Undones
 pub mod Outcomes
+pub mod Kept

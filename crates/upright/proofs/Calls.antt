@@ -1,29 +1,25 @@
 -- Insert, update, delete, withdraw and sweep keep every header right but for its checksum ("01, The page", "01, Writes, withdrawal,
 -- sweep"), whatever they write. Assumes nothing.
 use mathlib.Core.Path.{_≡_}
-use mathlib.Core.Bool.{Bool, true, false, cond, not, _&&_}
-use mathlib.Core.List.{List, [], _∷_}
-use Prim.Native.Nat.{ℕ, zero, suc, _+_, _≤_}
+use mathlib.Core.List.{List}
+use Prim.Native.Nat.{ℕ, _≤_}
 use native.Mathlib.Omega.{arith}
-use lib.ListN.{length, drop}
-use lib.Dec.{eqb}
+use lib.ListN.{length}
 use Rattle.little.specs.Little.{Bytes}
-use Rattle.kind.specs.Kind.{dataKind, undoKind, rows}
-use Rattle.kind.specs.Areas.{Both, both}
+use Rattle.kind.specs.Kind.{dataKind, undoKind}
+use Rattle.kind.specs.Areas.{Both}
 use Rattle.pointer.specs.Pointer.{pointerTo}
 use Rattle.records.specs.declared.slot.Slot.{Slot}
 use Rattle.records.specs.Slot.{slotAt, bodyAt}
 use Rattle.records.proofs.Bodies.{bodyAt-short, copyBodyAt-short, bytes-bodyAt, bytes-copyBodyAt}
 use Rattle.chain.specs.declared.Place.{Place}
 use Rattle.chain.specs.declared.Place.the-variants.{Nowhere, Data, Undo}
-use Rattle.chain.specs.Chain.{Version, chainOf}
-use Rattle.touching.specs.Touching.{withSlot, withMeta}
-use Rattle.freeing.specs.Freeing.{sweptSlot}
 use Rattle.writing.specs.Writing.{made, expired, kept, inserted, updatedUndo, updatedData, deleted}
-use Rattle.putback.specs.PutBack.{own, ownMade, unexpired, freedAt, copyBody, takenBack, undoneRow}
-use Rattle.undoing.specs.Undoing.{undoneFrom, undone}
-use Rattle.trimming.specs.Trimming.{deadIn, sweptAt, sweptAll, unlinked, cutAt, sweptBehind, sweptVersions, sweptRow}
+use Rattle.putback.specs.PutBack.{freedAt, copyBody}
+use Rattle.undoing.specs.Undoing.{undone}
+use Rattle.trimming.specs.Trimming.{sweptAt, unlinked, cutAt}
 use Rattle.sweeping.specs.Sweeping.{sweptFrom}
+use Rattle.outcomes.proofs.Kept.{Withdraws, Trims, undone-keeps, swept-keeps}
 use Rattle.keep.proofs.Promises.{Sealable}
 use Rattle.upright.proofs.Records.{sealable-withSlot, sealable-withMeta, sealable-withEntry, sealable-withoutSlot, sealable-withoutEntry, sealable-sweptSlot, sealable-sweptEntry, sealable-cutSlot, sealable-cutCopy}
 
@@ -66,10 +62,6 @@ sealable-updatedUndo n c r e d u b h =
 abbrev Upright : Both → Type 0
 Upright p = Sealable dataKind (p .«data») × Sealable undoKind (p .undo)
 
-either : (b : Bool) (p q : Both) → Upright p → Upright q → Upright (cond b p q)
-either true p q h k = h
-either false p q h k = k
-
 -- ---- withdraw
 
 freedAt-upright : (n : ℕ) (x : Place) (u : List ℕ) → Sealable undoKind u → Sealable undoKind (freedAt n x u)
@@ -77,43 +69,21 @@ freedAt-upright n (Undo e) u h = sealable-withoutEntry e u h n
 freedAt-upright n (Data r) u h = h
 freedAt-upright n Nowhere u h = h
 
-module _ (n k : ℕ) where
-  takenBack-upright : (r : ℕ) (xs : List Version) (p : Both) → Upright p → Upright (takenBack n k r xs p)
-  unfolding takenBack
-  takenBack-upright r [] p h = (sealable-withoutSlot r (p .«data») (h .0) n, h .1)
-  takenBack-upright r (x ∷ xs) p h =
-      let u : List ℕ = freedAt n (x .place) (p .undo) in
-      let freed : Sealable undoKind u = freedAt-upright n (x .place) (p .undo) (h .1) in
-      let body : List ℕ = copyBody (x .place) (p .undo) in
-      let own : Bytes body = bytes-copyBody (x .place) (p .undo) (h .1 .bytes) in
-      either (ownMade n k (x .slot))
-      (takenBack n k r xs (both (p .«data») u))
-      (both (withSlot n r (unexpired (x .slot)) body (p .«data»)) u)
-      (takenBack-upright r xs (both (p .«data») u) (h .0, freed)) (
-        sealable-withSlot r (p .«data») (h .0) n (unexpired (x .slot)) body (copyBody-short (x .place) (p .undo)) own,
-        freed,
-      )
-
-  undoneRow-upright : (r : ℕ) (p : Both) → Upright p → Upright (undoneRow n k r p)
-  unfolding undoneRow
-  undoneRow-upright r p h =
-      let m : Slot = slotAt r (p .«data») in
-      let chain : List Version = drop 1 (chainOf (p .«data») (p .undo) r .versions) in
-      let cleared : Both = both (withMeta n r (unexpired m) (p .«data»)) (p .undo) in
-      let ended : Bool = not (eqb (m .create) 0) && own n k (m .expire) (m .«expire_cmd») in
-      either (ownMade n k m) (takenBack n k r chain p) (cond ended cleared p)
-      (takenBack-upright r chain p h)
-      (either ended cleared p (sealable-withMeta r (p .«data») (h .0) n (unexpired m), h .1) h)
-
-  undoneFrom-upright : (r m : ℕ) (p : Both) → Upright p → Upright (undoneFrom n k r m p)
-  unfolding undoneFrom
-  undoneFrom-upright r zero p h = h
-  undoneFrom-upright r (suc m) p h = undoneFrom-upright (r + 1) m (undoneRow n k r p) (undoneRow-upright r p h)
+withdraws-upright : (n : ℕ) → Withdraws n Upright
+withdraws-upright n =
+    record {
+      empties = λ r p h. (sealable-withoutSlot r (p .«data») (h .0) n, h .1);
+      clears = λ r m p h. (sealable-withMeta r (p .«data») (h .0) n m, h .1);
+      puts = λ r m x p h. (
+        sealable-withSlot r (p .«data») (h .0) n m (copyBody x (p .undo)) (copyBody-short x (p .undo)) (bytes-copyBody x (p .undo) (h .1 .bytes)),
+        freedAt-upright n x (p .undo) (h .1),
+      );
+      frees = λ x p h. (h .0, freedAt-upright n x (p .undo) (h .1));
+    }
 
 pub sealable-undone : (n k : ℕ) (d u : List ℕ) → Sealable dataKind d → Sealable undoKind u
     → Sealable dataKind (undone n k d u .«data») × Sealable undoKind (undone n k d u .undo)
-unfolding undone
-sealable-undone n k d u hd hu = undoneFrom-upright n k 0 (rows d) (both d u) (hd, hu)
+sealable-undone n k d u hd hu = undone-keeps n k Upright (withdraws-upright n) d u (hd, hu)
 
 -- ---- sweep
 
@@ -122,42 +92,20 @@ sweptAt-upright (Undo e) u h = sealable-sweptEntry e u h
 sweptAt-upright (Data r) u h = h
 sweptAt-upright Nowhere u h = h
 
-sweptAll-upright : (xs : List Version) (u : List ℕ) → Sealable undoKind u → Sealable undoKind (sweptAll xs u)
-unfolding sweptAll
-sweptAll-upright [] u h = h
-sweptAll-upright (x ∷ xs) u h = sweptAll-upright xs (sweptAt (x .place) u) (sweptAt-upright (x .place) u h)
-
 cutAt-upright : (x : Place) (m : Slot) (p : Both) → Upright p → Upright (cutAt x m p)
 cutAt-upright (Data r) m p h = (sealable-cutSlot r (p .«data») (h .0) (unlinked m), h .1)
 cutAt-upright (Undo e) m p h = (h .0, sealable-cutCopy e (p .undo) (h .1) (unlinked m))
 cutAt-upright Nowhere m p h = h
 
--- the mark and the status page
-module _ (m : ℕ) (s : List ℕ) where
-  sweptBehind-upright : (x : Version) (ys : List Version) (p : Both) → Upright p → Upright (sweptBehind m s x ys p)
-  unfolding sweptBehind
-  sweptBehind-upright x [] p h = h
-  sweptBehind-upright x (y ∷ ys) p h =
-      let swept : Both = both (p .«data») (sweptAll (y ∷ ys) (p .undo)) in
-      either (deadIn m s (y .slot)) (cutAt (x .place) (x .slot) swept) (sweptBehind m s y ys p)
-      (cutAt-upright (x .place) (x .slot) swept (h .0, sweptAll-upright (y ∷ ys) (p .undo) (h .1)))
-      (sweptBehind-upright y ys p h)
-
-  sweptVersions-upright : (r : ℕ) (xs : List Version) (p : Both) → Upright p → Upright (sweptVersions m s r xs p)
-  unfolding sweptVersions
-  sweptVersions-upright r [] p h = h
-  sweptVersions-upright r (x ∷ xs) p h =
-      either (deadIn m s (x .slot)) (both (sweptSlot r (p .«data»)) (sweptAll xs (p .undo))) (sweptBehind m s x xs p)
-      (sealable-sweptSlot r (p .«data») (h .0), sweptAll-upright xs (p .undo) (h .1))
-      (sweptBehind-upright x xs p h)
-
-  sweptFrom-upright : (r n : ℕ) (p : Both) → Upright p → Upright (sweptFrom m s r n p)
-  unfolding sweptFrom sweptRow
-  sweptFrom-upright r zero p h = h
-  sweptFrom-upright r (suc n) p h =
-      sweptFrom-upright (r + 1) n (sweptRow m s r p) (sweptVersions-upright r (chainOf (p .«data») (p .undo) r .versions) p h)
+trims-upright : Trims Upright
+trims-upright =
+    record {
+      empties = λ r p h. (sealable-sweptSlot r (p .«data») (h .0), h .1);
+      frees = λ x p h. (h .0, sweptAt-upright x (p .undo) (h .1));
+      cuts = cutAt-upright;
+    }
 
 pub sealable-swept : (m : ℕ) (s : List ℕ) (first n : ℕ) (p : Both) → Sealable dataKind (p .«data»)
     → Sealable undoKind (p .undo)
     → Sealable dataKind (sweptFrom m s first n p .«data») × Sealable undoKind (sweptFrom m s first n p .undo)
-sealable-swept m s first n p hd hu = sweptFrom-upright m s first n p (hd, hu)
+sealable-swept m s first n p hd hu = swept-keeps m s Upright trims-upright first n p (hd, hu)
