@@ -19,7 +19,7 @@ static uint8_t undo[CHIRIMOK_PAGE];
 static uint8_t status[CHIRIMOK_PAGE];
 static struct chirimok_desk desk;
 
-_Static_assert(sizeof desk == 273 * sizeof(uint64_t), "the desk is 273 words");
+_Static_assert(sizeof desk == 273 * sizeof(uint32_t), "the desk is 273 words");
 
 /* The areas in the order in which every call takes them. */
 #define AREAS data, sizeof data, undo, sizeof undo, status, sizeof status
@@ -116,6 +116,6 @@ int main(void)
 
     must("seal", chirimok_seal(AREAS, &desk));
     must("open", chirimok_open(AREAS, &desk));
-    printf("seal and open: done, next session %" PRIu64 "\n", desk.next);
+    printf("seal and open: done, next session %" PRIu32 "\n", desk.next);
     return EXIT_SUCCESS;
 }

@@ -9,10 +9,11 @@
  *   status  exactly 1 page; the states of 32,575 session numbers
  *   desk    the open sessions, struct chirimok_desk
  *
- * Areas are passed as a pointer and a length in bytes and need no alignment. The desk and the out
- * arrays must be aligned for uint64_t (8 bytes). No two of the lent parts may overlap. No pointer
- * may be NULL, even where its length is 0. A call never writes where a parameter points to const.
- * It writes the out array always, and the areas and the desk only if it is accepted.
+ * Areas are passed as a pointer and a length in bytes and need no alignment. The desk must be
+ * aligned for uint32_t (4 bytes), the out arrays for uint64_t (8 bytes). No two of the lent parts
+ * may overlap. No pointer may be NULL, even where its length is 0. A call never writes where a
+ * parameter points to const. It writes the out array always, and the areas and the desk only if it
+ * is accepted.
  *
  * Threads: calls on different stores may run at the same time. Calls on one store may not, unless
  * all of them are reads, each with an out array of its own.
@@ -62,15 +63,16 @@ enum {
 };
 
 /*
- * The desk: 273 words. format and open fill one in; the caller keeps it and lends it to each call.
- * Reading it is fine, writing it is not: a desk that breaks a rule is answered with
- * CHIRIMOK_UNSOUND_DESK.
+ * The desk: 273 words of 32 bits. format and open fill one in; the caller keeps it and lends it to
+ * each call. seal, insert, update, delete, read and sweep only look at it; begin, next, commit and
+ * withdraw change it. Reading it is fine, writing it is not: a desk that breaks a rule is answered
+ * with CHIRIMOK_UNSOUND_DESK.
  */
 struct chirimok_desk {
-    uint64_t next;           /* the number that the next session gets, 1 to 32,576 */
-    uint64_t numbers[16];    /* the open sessions' numbers, ascending; unused places are 0 */
-    uint64_t statements[16]; /* the statement of each, 0 to 65,535 */
-    uint64_t lists[16][15];  /* the numbers open when each began, ascending; unused places are 0 */
+    uint32_t next;           /* the number that the next session gets, 1 to 32,576 */
+    uint32_t numbers[16];    /* the open sessions' numbers, ascending; unused places are 0 */
+    uint32_t statements[16]; /* the statement of each, 0 to 65,535 */
+    uint32_t lists[16][15];  /* the numbers open when each began, ascending; unused places are 0 */
 };
 
 /*

@@ -1,5 +1,5 @@
 #!/bin/sh
-# Tries the ten breaks of BREAKS.md. Each is applied to a copy of this workspace, and the named test
+# Tries the eleven breaks of BREAKS.md. Each is applied to a copy of this workspace, and the named test
 # must compile and then fail; on the untouched copy every test must pass. Needs the archive that
 # CHIRIMOK_STATION names, by default ../target/staticlib/libstation.a.
 set -eu
@@ -71,11 +71,13 @@ break_it 6 plain/src/sight.rs 's/else if committed(status, writer)/else if !comm
     agree_on_histories agree_on_histories
 break_it 7 plain/src/sweep.rs 's/touched.finish(data, undo, None)/touched.finish(data, undo, Some(mark))/' \
     agree_on_histories agree_on_histories
-break_it 8 plain/src/desk.rs 's/last < limit/last <= limit/' \
+break_it 8 plain/src/desk.rs 's/place >= limit/place > limit/' \
     agree_on_damage agree_on_desks
 break_it 9 plain/src/page.rs 's/u16_at(page, ITEM_COUNT) == self.count_items(page)/true/' \
     agree_on_damage agree_on_wrong_headers
 break_it 10 plain/src/page.rs '/const DATA/,/};/s/most: 64/most: 65/' \
     agree_on_damage agree_on_lengths
+break_it 11 plain/src/desk.rs 's/lanes.iter().chain(rest)/lanes.iter()/' \
+    agree_on_damage agree_on_desks
 
 exit "$((unnoticed > 0))"

@@ -1,7 +1,7 @@
 -- What an admission says of the areas and the desk that came in, and of a call's list of refusals. Once, for all session calls.
 -- Assumes nothing.
 use mathlib.Core.Path.{_≡_, refl}
-use mathlib.Core.Bool.{Bool, not}
+use mathlib.Core.Bool.{Bool, true, not}
 use mathlib.Core.List.{List, _∷_}
 use Prim.Native.Nat.{ℕ, _<_, _≤_}
 use native.Mathlib.Omega.{arith}
@@ -24,11 +24,11 @@ use Rattle.admit.proofs.Admits.{Admission, admitOf-refused, admitOf-at}
 
 -- session x is admitted to these areas and this desk, at place k
 pub record Admits (d u s : List ℕ) (desk : Desk) (x k : ℕ) : Type 0 where
-  pub passed : Admission (length d) (length u) (length s) (desk .next) (desk .numbers) (desk .statements) (desk .lists) x k
+  pub passed : Admission (length d) (length u) (length s) desk x k
 
 module _ (d u s : List ℕ) (desk : Desk) (x : ℕ) where
   abbrev pub admission : Admitted
-  admission = admitOf (length d) (length u) (length s) (desk .next) (desk .numbers) (desk .statements) (desk .lists) x
+  admission = admitOf (length d) (length u) (length s) desk x
 
   -- the front of every session call's list of refusals
   abbrev pub asks : List (Bool × ℕ) → List (Bool × ℕ)
@@ -38,17 +38,15 @@ module _ (d u s : List ℕ) (desk : Desk) (x : ℕ) where
   pub refuses : {A : Type 0} (n : Answer) (rest : List (Bool × ℕ)) (done : A) (refused : ℕ → A)
       → admission ≡ Refused n
       → settle (firstOf (asks rest)) done refused ≡ refused (codeOf n)
-  unfolding sound
   refuses n rest done refused e =
-      admitOf-refused (length d) (length u) (length s) (desk .next) (desk .numbers) (desk .statements) (desk .lists) x n rest done refused e
+      admitOf-refused (length d) (length u) (length s) desk x n rest done refused e
 
   pub admits : (k : ℕ) → admission ≡ At k → Admits d u s desk x k
   admits k e =
-      record { passed = admitOf-at (length d) (length u) (length s) (desk .next) (desk .numbers) (desk .statements) (desk .lists) x k e }
+      record { passed = admitOf-at (length d) (length u) (length s) desk x k e }
 
   -- where nothing is refused the session was admitted, and nothing behind 4 is refused
   pub accepts : (rest : List (Bool × ℕ)) → firstOf (asks rest) ≡ 0 → Admits d u s desk x (placeIn x (desk .numbers)) × (firstOf rest ≡ 0)
-  unfolding sound
   accepts rest e =
       let l = firstOf-none (badLength (areas d u s)) 1 _ (λ z. omega arith) e in
       let b = firstOf-none (not (sound desk)) 2 _ (λ z. omega arith) (l .1) in
@@ -59,13 +57,11 @@ module _ (d u s : List ℕ) (desk : Desk) (x : ℕ) where
     -- the list goes on behind 4
     pub goes-on : {A : Type 0} (rest : List (Bool × ℕ)) (done : A) (refused : ℕ → A)
         → settle (firstOf (asks rest)) done refused ≡ settle (firstOf rest) done refused
-    unfolding sound
     goes-on rest done refused = rw (a .passed .lengths, a .passed .sound, a .passed .opened)
 
     -- ---- what an admitted session is on its desk
 
     admits-open : Open desk x
-    unfolding sound
     admits-open = isOpen-open desk x (a .passed .sound) (a .passed .opened)
 
     pub admits-at : k ≡ placeIn x (desk .numbers)
@@ -73,6 +69,12 @@ module _ (d u s : List ℕ) (desk : Desk) (x : ℕ) where
 
     pub admits-place : k < 16
     admits-place = omega (arith, a .passed .place, admits-open .place)
+
+    pub admits-number : getD (desk .numbers) k 0 ≡ x
+    admits-number = rw (a .passed .place) (admits-open .here)
+
+    pub admits-sound : sound desk ≡ true
+    admits-sound = a .passed .sound
 
     pub admits-from : 1 ≤ x
     admits-from = admits-open .from

@@ -12,7 +12,8 @@ use Rattle.answer.specs.declared.Answer.{Answer}
 use Rattle.answer.specs.declared.Answer.the-variants.{BadLength, Unsound, NotOpen}
 use Rattle.answer.specs.Code.{codeOf}
 use Rattle.places.specs.Open.{placeIn, isOpen}
-use Rattle.desk.specs.Sound.{soundColumns}
+use Rattle.desk.specs.declared.Desk.{Desk}
+use Rattle.desk.specs.Sound.{sound}
 use Rattle.kind.specs.Kind.{lengthsOk}
 use Rattle.admit.specs.declared.Admitted.{Admitted}
 use Rattle.admit.specs.declared.Admitted.the-variants.{At, Refused}
@@ -48,49 +49,49 @@ passedBy true false o k p e = let z : _≡_ {A = ℕ} 0 1 = cc in absurd (omega 
 passedBy true true false k p e = let z : _≡_ {A = ℕ} 0 1 = cc in absurd (omega arith)
 passedBy true true true k p e = let q : p ≡ k = cc in record { lengths = refl; sound = refl; opened = refl; place = q }
 
-module _ (d u s next : ℕ) (numbers statements lists : List ℕ) (x : ℕ) where
+module _ (d u s : ℕ) (desk : Desk) (x : ℕ) where
   -- the tests of session x
   abbrev pub Admission : ℕ → Type 0
-  Admission p = Passed (lengthsOk d u s) (soundColumns next numbers statements lists) (isOpen x numbers) (placeIn x numbers) p
+  Admission p = Passed (lengthsOk d u s) (sound desk) (isOpen x (desk .numbers)) (placeIn x (desk .numbers)) p
 
   abbrev pub asked : List (Bool × ℕ) → List (Bool × ℕ)
-  asked rest = front (lengthsOk d u s) (soundColumns next numbers statements lists) (isOpen x numbers) rest
+  asked rest = front (lengthsOk d u s) (sound desk) (isOpen x (desk .numbers)) rest
 
   pub admitOf-refused : {A : Type 0} (n : Answer) (rest : List (Bool × ℕ)) (done : A) (refused : ℕ → A)
-      → admitOf d u s next numbers statements lists x ≡ Refused n
+      → admitOf d u s desk x ≡ Refused n
       → settle (firstOf (asked rest)) done refused ≡ refused (codeOf n)
   unfolding admitOf
   admitOf-refused n rest done refused e =
-      refusedBy (lengthsOk d u s) (soundColumns next numbers statements lists) (isOpen x numbers) (placeIn x numbers) n rest done refused e
+      refusedBy (lengthsOk d u s) (sound desk) (isOpen x (desk .numbers)) (placeIn x (desk .numbers)) n rest done refused e
 
-  pub admitOf-at : (p : ℕ) → admitOf d u s next numbers statements lists x ≡ At p → Admission p
+  pub admitOf-at : (p : ℕ) → admitOf d u s desk x ≡ At p → Admission p
   unfolding admitOf
-  admitOf-at p e = passedBy (lengthsOk d u s) (soundColumns next numbers statements lists) (isOpen x numbers) (placeIn x numbers) p e
+  admitOf-at p e = passedBy (lengthsOk d u s) (sound desk) (isOpen x (desk .numbers)) (placeIn x (desk .numbers)) p e
 
   pub firstOf-asked : (p : ℕ) (rest : List (Bool × ℕ)) → Admission p → firstOf (asked rest) ≡ firstOf rest
   firstOf-asked p rest a = rw (a .lengths, a .sound, a .opened)
 
   -- ---- as the function finds it
 
-  pub admitOf-1 : lengthsOk d u s ≡ false → admitOf d u s next numbers statements lists x ≡ Refused BadLength
+  pub admitOf-1 : lengthsOk d u s ≡ false → admitOf d u s desk x ≡ Refused BadLength
   unfolding admitOf
   admitOf-1 l = rw l
 
-  pub admitOf-2 : lengthsOk d u s ≡ true → soundColumns next numbers statements lists ≡ false → admitOf d u s next numbers statements lists x ≡ Refused Unsound
+  pub admitOf-2 : lengthsOk d u s ≡ true → sound desk ≡ false → admitOf d u s desk x ≡ Refused Unsound
   unfolding admitOf
   admitOf-2 l b = rw (l, b)
 
-  module _ (l : lengthsOk d u s ≡ true) (b : soundColumns next numbers statements lists ≡ true) where
-    pub admitOf-zero : x ≡ 0 → admitOf d u s next numbers statements lists x ≡ Refused NotOpen
+  module _ (l : lengthsOk d u s ≡ true) (b : sound desk ≡ true) where
+    pub admitOf-zero : x ≡ 0 → admitOf d u s desk x ≡ Refused NotOpen
     unfolding admitOf isOpen
     admitOf-zero z = rw (l, b, eq-eqb x 0 z)
 
-    pub admitOf-none : (k : ℕ) → k ≡ placeIn x numbers → (x ≡ 0 → ⊥) → 16 ≤ k → admitOf d u s next numbers statements lists x ≡ Refused NotOpen
+    pub admitOf-none : (k : ℕ) → k ≡ placeIn x (desk .numbers) → (x ≡ 0 → ⊥) → 16 ≤ k → admitOf d u s desk x ≡ Refused NotOpen
     unfolding admitOf isOpen
-    admitOf-none k e ne h = let o : ltb (placeIn x numbers) 16 ≡ false = le-ltb (placeIn x numbers) 16 (omega arith) in rw (l, b, ne-eqb x 0 ne, o)
+    admitOf-none k e ne h = let o : ltb (placeIn x (desk .numbers)) 16 ≡ false = le-ltb (placeIn x (desk .numbers)) 16 (omega arith) in rw (l, b, ne-eqb x 0 ne, o)
 
-    pub admitOf-some : (k : ℕ) → k ≡ placeIn x numbers → (x ≡ 0 → ⊥) → k < 16 → admitOf d u s next numbers statements lists x ≡ At k
+    pub admitOf-some : (k : ℕ) → k ≡ placeIn x (desk .numbers) → (x ≡ 0 → ⊥) → k < 16 → admitOf d u s desk x ≡ At k
     unfolding admitOf isOpen
     admitOf-some k e ne h =
-        let o : ltb (placeIn x numbers) 16 ≡ true = lt-ltb (placeIn x numbers) 16 (omega arith) in
+        let o : ltb (placeIn x (desk .numbers)) 16 ≡ true = lt-ltb (placeIn x (desk .numbers)) 16 (omega arith) in
         rw (l, b, ne-eqb x 0 ne, o) (ap At (sym e))

@@ -5,7 +5,7 @@ use mathlib.Core.Bool.{Bool, true, false, not}
 use mathlib.Core.List.{List}
 use Prim.Native.Nat.{ℕ, _+_, _*_, _<_}
 use native.Mathlib.Omega.{arith}
-use lib.ListN.{getD, take, drop}
+use lib.ListN.{getD, take, drop, length-take}
 use lib.Seq.{getD-take, getD-drop}
 use lib.Dec.{ltb}
 use borrow.Author.Tests.{ltb-true}
@@ -47,8 +47,9 @@ module _ (d : Desk) (s : List ℕ) (t : Stamp) (dead : isDead (mark d) s t ≡ t
         by false e = refl
         by true e =
             let at = listed-at (t .expire) list e in
+            let inside : at .0 < 15 = omega (arith, at .1, length-take 15 (drop (k * 15) (d .lists))) in
             let member : getD (d .lists) (k * 15 + at .0) 0 ≡ t .expire =
-            sym (getD-drop (k * 15) (d .lists) (at .0) 0) ∙ sym (getD-take 15 (drop (k * 15) (d .lists)) (at .0) 0 (at .1)) ∙ at .2
+            sym (getD-drop (k * 15) (d .lists) (at .0) 0) ∙ sym (getD-take 15 (drop (k * 15) (d .lists)) (at .0) 0 inside) ∙ at .2
             in
             let low = mark-lists d (k * 15 + at .0) (λ z. some (sym member ∙ z)) in
             absurd (omega (arith, low, member, below))

@@ -1,7 +1,7 @@
 // Plays the conflict cases of "01, When the desk says no" and the gauge pieces P5 to P8 on a store of one page an area, each on a
 // freshly formatted one. A line for each call: its name, the session and the row, a tab, then the number and the values it answers.
 use answer::Answer;
-use desk::Desk;
+use words::Words;
 
 // The bodies that are written: of an insert, and of an update.
 const OLD: [u8; 32] = [b'a'; 32];
@@ -33,33 +33,28 @@ fn said(a: Answer) {
     io::write_all(1, b"\n");
 }
 
-fn begin(data: &[u8], undo: &[u8], status: &mut [u8], desk: Desk) -> Desk {
+fn begin(data: &[u8], undo: &[u8], status: &mut [u8], desk: &mut Words) {
     let b = turns::begin(data, undo, status, desk);
     let a = b.answer;
     io::write_all(1, b"begin");
     value(b"\t", answer::code(a) as u64);
     value(b" ", b.number);
     io::write_all(1, b"\n");
-    b.desk
 }
 
-fn next(data: &[u8], undo: &[u8], status: &[u8], desk: Desk, s: u64) -> Desk {
-    let m = turns::next(data, undo, status, desk, s);
-    let a = m.answer;
+fn next(data: &[u8], undo: &[u8], status: &[u8], desk: &mut Words, s: u64) {
+    let a = turns::next(data, undo, status, desk, s);
     call(b"next", s);
     said(a);
-    m.desk
 }
 
-fn commit(data: &[u8], undo: &[u8], status: &mut [u8], desk: Desk, s: u64) -> Desk {
-    let m = turns::commit(data, undo, status, desk, s);
-    let a = m.answer;
+fn commit(data: &[u8], undo: &[u8], status: &mut [u8], desk: &mut Words, s: u64) {
+    let a = turns::commit(data, undo, status, desk, s);
     call(b"commit", s);
     said(a);
-    m.desk
 }
 
-fn insert(data: &mut [u8], undo: &[u8], status: &[u8], desk: Desk, s: u64) {
+fn insert(data: &mut [u8], undo: &[u8], status: &[u8], desk: &Words, s: u64) {
     let i = rows::insert(data, undo, status, desk, s, &OLD);
     let a = i.answer;
     call(b"insert", s);
@@ -68,14 +63,14 @@ fn insert(data: &mut [u8], undo: &[u8], status: &[u8], desk: Desk, s: u64) {
     io::write_all(1, b"\n");
 }
 
-fn update(data: &mut [u8], undo: &mut [u8], status: &[u8], desk: Desk, s: u64) {
+fn update<'a>(data: &mut [u8], undo: &mut [u8], status: &'a [u8], desk: &'a Words, s: u64) {
     let a = rows::update(data, undo, status, desk, s, 0, &NEW);
     call(b"update", s);
     value(b" ", 0);
     said(a);
 }
 
-fn delete<'a>(data: &mut [u8], undo: &'a [u8], status: &'a [u8], desk: Desk, s: u64) {
+fn delete<'a>(data: &mut [u8], undo: &'a [u8], status: &'a [u8], desk: &'a Words, s: u64) {
     let a = rows::delete(data, undo, status, desk, s, 0);
     call(b"delete", s);
     value(b" ", 0);
@@ -83,7 +78,7 @@ fn delete<'a>(data: &mut [u8], undo: &'a [u8], status: &'a [u8], desk: Desk, s: 
 }
 
 // The number, the versions looked at, and the body, which a refusal leaves out.
-fn read<'a>(data: &'a [u8], undo: &'a [u8], status: &'a [u8], desk: Desk, s: u64) {
+fn read<'a>(data: &'a [u8], undo: &'a [u8], status: &'a [u8], desk: &'a Words, s: u64) {
     let r = rows::read(data, undo, status, desk, s, 0);
     let a = r.answer;
     let place = r.place;
@@ -97,25 +92,15 @@ fn read<'a>(data: &'a [u8], undo: &'a [u8], status: &'a [u8], desk: Desk, s: u64
     io::write_all(1, b"\n");
 }
 
-// One call of a case, by its first letter. It hands the desk back, new or as it was.
-fn play(
-    data: &mut [u8],
-    undo: &mut [u8],
-    status: &mut [u8],
-    desk: Desk,
-    letter: u8,
-    s: u64,
-) -> Desk {
+// One call of a case, by its first letter. Begin, next and commit change the words of the desk.
+fn play(data: &mut [u8], undo: &mut [u8], status: &mut [u8], desk: &mut Words, letter: u8, s: u64) {
     if letter == b'b' {
-        return begin(data, undo, status, desk);
-    }
-    if letter == b'n' {
-        return next(data, undo, status, desk, s);
-    }
-    if letter == b'c' {
-        return commit(data, undo, status, desk, s);
-    }
-    if letter == b'i' {
+        begin(data, undo, status, desk);
+    } else if letter == b'n' {
+        next(data, undo, status, desk, s);
+    } else if letter == b'c' {
+        commit(data, undo, status, desk, s);
+    } else if letter == b'i' {
         insert(data, undo, status, desk, s);
     } else if letter == b'u' {
         update(data, undo, status, desk, s);
@@ -124,20 +109,20 @@ fn play(
     } else {
         read(data, undo, status, desk, s);
     }
-    desk
 }
 
 // A case on a freshly formatted store: its title, and its calls, each a letter and the session's digit.
 fn case(data: &mut [u8], undo: &mut [u8], status: &mut [u8], name: &[u8], calls: &[u8]) {
     title(name);
     let o = keep::format(data, undo, status);
-    let mut desk = o.desk;
+    let fresh = o.desk;
+    let mut desk = words::words_of(fresh);
     let n = calls.len() / 2;
     let mut i = 0;
     while i < n {
         let letter = calls[2 * i];
         let digit = calls[2 * i + 1];
-        desk = play(data, undo, status, desk, letter, (digit % 16) as u64);
+        play(data, undo, status, &mut desk, letter, (digit % 16) as u64);
         i += 1;
     }
 }

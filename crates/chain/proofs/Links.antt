@@ -4,17 +4,20 @@ use mathlib.Core.Path.{_≡_, refl, sym, ap, subst, _∙_}
 use mathlib.Core.Logic.{_⊎_, inl, inr}
 use mathlib.Core.Bool.{Bool, true, false, not, _||_, cond, or-true, true≢false}
 use mathlib.Core.List.{List, _∷_}
-use Prim.Native.Nat.{ℕ, _<_}
+use Prim.Native.Nat.{ℕ, _+_, _≤_, _<_}
 use native.Mathlib.Omega.{arith}
+use lib.ListN.{length}
 use lib.Dec.{eqb}
 use borrow.Author.Tests.{eqb-true, eqb-false, eq-eqb, ne-eqb}
+use Rattle.little.specs.Little.{part}
 use Rattle.kind.specs.Kind.{pages, entries}
 use Rattle.pointer.specs.declared.Lead.{Lead}
 use Rattle.pointer.specs.declared.Lead.the-variants.{Nowhere as None, Entry as ToEntry, Astray}
-use Rattle.pointer.specs.Pointer.{leadOf}
-use Rattle.pointer.proofs.PointerLaws.{leadOf-zero, leadOf-nowhere, leadOf-inside}
+use Rattle.pointer.specs.Pointer.{leadOf, placeIn}
+use Rattle.pointer.proofs.PointerLaws.{leadOf-zero, leadOf-nowhere, leadOf-inside, placeIn-leadOf}
 use Rattle.records.specs.declared.entry.Entry.{Entry}
-use Rattle.records.specs.Entry.{entryAt}
+use Rattle.records.specs.Entry.{entryOf, entryPlace, entryAt}
+use Rattle.records.proofs.Entries.{entry-inside, entryAt-read}
 use Rattle.chain.specs.declared.Link.the-variants.{End, Break, To}
 use Rattle.chain.specs.Chain.{among, unfit, linkAt, linkOf}
 
@@ -73,7 +76,18 @@ unfit-carries r m = by (eqb (m .writer) 0) (eqb (m .row) r) (eqb (m .copy .creat
     by false true false x y z h =
         record { used = eqb-false (m .writer) 0 x; row = eqb-true (m .row) r y; some = eqb-false (m .copy .create) 0 z }
 
--- ---- one step, as the code takes it: `lead` is where it found the pointer to lead
+-- ---- one step, as the code takes it: `lead` is where it found the pointer to lead, and `at` the byte that the pointer says
+
+-- an entry is read where the pointer says
+module _ {lead : Lead} {at : ℕ} (u : List ℕ) (ptr e : ℕ) (is : lead ≡ leadOf (pages u) ptr) (to : lead ≡ ToEntry e) (place : at ≡ placeIn ptr) where
+  place-entry : at ≡ entryPlace e
+  place-entry = place ∙ placeIn-leadOf (pages u) ptr e (sym is ∙ to)
+
+  pub link-room : at + 80 ≤ length u
+  link-room = omega (arith, place-entry, entry-inside e u (leadOf-inside (pages u) ptr e (sym is ∙ to)))
+
+  pub link-read : {m : Entry} → m ≡ entryOf (part at 80 u) → m ≡ entryAt e u
+  link-read = entryAt-read e u place-entry
 
 module _ {lead : Lead} (u : List ℕ) (r ptr : ℕ) (is : lead ≡ leadOf (pages u) ptr) where
   pub link-end : lead ≡ None → End ≡ linkOf u r ptr

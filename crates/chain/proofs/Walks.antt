@@ -1,5 +1,5 @@
 -- What the walk finds, case by case, and what it means to be the first version of a chain ("01, Sessions and sight"). Assumes nothing.
-use mathlib.Core.Path.{_≡_, refl, sym, ap, subst, _∙_}
+use mathlib.Core.Path.{_≡_, refl, sym, ap, subst, _∙_, fun-ext}
 use mathlib.Core.Bool.{Bool, true, false, cond}
 use mathlib.Core.List.{List, [], _∷_, _++_}
 use Prim.Native.Nat.{ℕ, zero, suc, _+_, _-_, _<_}
@@ -9,9 +9,10 @@ use lib.Dec.{eqb}
 use lib.ListN.{length}
 use borrow.Author.Tests.{eqb-true, eqb-false}
 use Rattle.kind.specs.Kind.{rows, entries}
-use Rattle.desk.specs.declared.View.{View}
+use Rattle.desk.specs.View.{View}
 use Rattle.sight.specs.declared.Stamp.{Stamp}
-use Rattle.sight.specs.Sight.{there}
+use Rattle.sight.specs.Sight.{viewOf, there}
+use Rattle.sight.proofs.Fronts.{FrontOf, front-there}
 use Rattle.records.specs.declared.slot.Slot.{Slot}
 use Rattle.records.specs.declared.entry.Entry.{Entry}
 use Rattle.records.specs.Slot.{slotAt}
@@ -242,3 +243,14 @@ module _ (d u s : List ℕ) (v : View) (r : ℕ) where
       by Nowhere m k = absurd k
       by (Data q) m k = length-slot-body d u q (omega (arith, k .0))
       by (Undo e) m k = length-copy-body d u e (k .0)
+
+-- ---- two views that differ in unused places alone
+
+pub front-walk : (m l : List ℕ)
+    → FrontOf m l
+    → (number statement : ℕ) (d u s : List ℕ) (r : ℕ)
+    → walkRule d u s (viewOf number statement m) r ≡ walkRule d u s (viewOf number statement l) r
+unfolding walkRule
+front-walk m l front number statement d u s r =
+    ap (λ (p : Slot → Bool). firstIn p 0 (chainOf d u r .versions) (chainOf d u r .whole))
+    (fun-ext (λ x. front-there m l front number statement s (stampOf x)))

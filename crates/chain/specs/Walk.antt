@@ -8,7 +8,7 @@ use Rattle.kind.specs.Kind.{rows, entries}
 use Rattle.records.specs.declared.slot.Slot.{Slot}
 use Rattle.records.specs.Slot.{slotPlace, bodyAt}
 use Rattle.records.specs.Entry.{entryPlace, copyBodyAt}
-use Rattle.desk.specs.declared.View.{View}
+use Rattle.desk.specs.View.{View}
 use Rattle.sight.specs.declared.Stamp.{Stamp}
 use Rattle.sight.specs.Sight.{there}
 use Rattle.chain.specs.declared.Place.{Place}

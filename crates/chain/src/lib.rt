@@ -41,12 +41,14 @@ pub enum Link {
 pub fn follow(undo: &[u8], row: usize, ptr: u64) -> Link
     ensures { λ r. ⌜ r ≡ linkOf (now (undo .entry)) row ptr ⌝ }
 {
-    let lead = Pointer { raw: ptr }.lead(undo.len() / Kind::PAGE);
+    let pointer = Pointer { raw: ptr };
+    let lead = pointer.lead(undo.len() / Kind::PAGE);
     match lead {
         Lead::Nowhere => Link::End,
         Lead::Astray => Link::Break,
         Lead::Entry(e) => {
-            let m = records::entry::read_entry(undo, e);
+            // The next pointer of a walk comes from this read, so it waits for no division: e is only answered.
+            let m = records::entry::get_entry(undo, pointer.place());
             if (m.writer == 0) | (m.row as usize != row) | (m.copy.create == 0) {
                 return Link::Break;
             }
@@ -86,7 +88,7 @@ fn search_copies<'a>(
     status: &'a [u8],
     number: u64,
     statement: u32,
-    list: &'a [u64; 15],
+    list: &'a [u32],
     row: usize,
     first: u64,
 ) -> Walk
@@ -122,7 +124,7 @@ pub fn search<'a>(
     status: &'a [u8],
     number: u64,
     statement: u32,
-    list: &'a [u64; 15],
+    list: &'a [u32],
     row: usize,
 ) -> Walk
     requires { ⌜ (row < rows (now «data»)) × (length (now status) ≡ pageSize) ⌝ }

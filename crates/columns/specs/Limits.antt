@@ -1,5 +1,5 @@
 -- The desk's limits ("01, Sessions and sight"). Assumes nothing.
-use Prim.Native.Nat.{ℕ}
+use Prim.Native.Nat.{ℕ, _*_}
 
 -- "at most 16 open sessions"; of each "the numbers open when it began: at most 15"
 abbrev pub sessions : ℕ
@@ -7,6 +7,10 @@ sessions = 16
 
 abbrev pub members : ℕ
 members = 15
+
+-- the places of all lists together
+abbrev pub places : ℕ
+places = sessions * members
 
 -- "its statement (0 to 65,535)"
 abbrev pub lastStatement : ℕ

@@ -8,10 +8,11 @@ use Prim.Native.Nat.{ℕ, _<_, _≤_}
 use native.Mathlib.Omega.{arith}
 use lib.Dec.{eqb, ltb}
 use borrow.Author.Tests.{eq-eqb, ne-eqb, lt-ltb, le-ltb}
-use Rattle.desk.specs.declared.View.{View}
+use Rattle.desk.specs.View.{View}
 use Rattle.sight.specs.declared.Stamp.{Stamp}
-use Rattle.sight.specs.Sight.{committed, sees, earlier, known}
+use Rattle.sight.specs.Sight.{viewOf, committed, sees, earlier, known}
 use Rattle.sight.specs.Conflict.{ofAnother, conflictOf}
+use Rattle.sight.proofs.Fronts.{FrontOf, front-sees}
 
 -- "10 if committed, else 9"
 module _ {b : Bool} (x : ℕ) (s : List ℕ) (told : b ≡ committed x s) where
@@ -116,3 +117,12 @@ conflict-clear v s t e =
     (eqb (t .expire) (v .number))
     (committed (t .expire) s)
     e
+
+-- ---- two views that differ in unused places alone
+
+pub front-conflict : (m l : List ℕ)
+    → FrontOf m l
+    → (number statement : ℕ) (s : List ℕ) (t : Stamp)
+    → conflictOf (viewOf number statement m) s t ≡ conflictOf (viewOf number statement l) s t
+unfolding conflictOf
+front-conflict m l front number statement s t = rw (front-sees m l front number s (t .create))

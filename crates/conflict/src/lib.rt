@@ -25,7 +25,7 @@ fn another(status: &[u8], x: u64) -> Answer
 pub fn conflict_of<'a>(
     number: u64,
     statement: u32,
-    list: &'a [u64; 15],
+    list: &'a [u32],
     status: &'a [u8],
     t: Stamp,
 ) -> Answer

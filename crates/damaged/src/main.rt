@@ -2,6 +2,8 @@
 // purpose. A line for each call: what is damaged, the call, the number that it answers, parted by tabs.
 use answer::Answer;
 use desk::Desk;
+use words::Layout;
+use words::Words;
 
 // The bodies that are written: of an insert, and of an update.
 const OLD: [u8; 32] = [b'a'; 32];
@@ -43,7 +45,7 @@ fn format(what: &[u8], data: &mut [u8], undo: &mut [u8], status: &mut [u8]) {
     line(what, b"format", a);
 }
 
-fn seal(what: &[u8], data: &mut [u8], undo: &mut [u8], status: &mut [u8], desk: Desk) {
+fn seal(what: &[u8], data: &mut [u8], undo: &mut [u8], status: &mut [u8], desk: &Words) {
     let a = keep::seal(data, undo, status, desk);
     line(what, b"seal", a);
 }
@@ -54,19 +56,16 @@ fn open(what: &[u8], data: &[u8], undo: &[u8], status: &[u8]) {
     line(what, b"open", a);
 }
 
-fn begin(what: &[u8], data: &[u8], undo: &[u8], status: &mut [u8], desk: Desk) -> Desk {
+fn begin(what: &[u8], data: &[u8], undo: &[u8], status: &mut [u8], desk: &mut Words) {
     let b = turns::begin(data, undo, status, desk);
     let a = b.answer;
     line(what, b"begin", a);
-    b.desk
 }
 
 // Of session 1.
-fn next(what: &[u8], data: &[u8], undo: &[u8], status: &[u8], desk: Desk) -> Desk {
-    let m = turns::next(data, undo, status, desk, 1);
-    let a = m.answer;
+fn next(what: &[u8], data: &[u8], undo: &[u8], status: &[u8], desk: &mut Words) {
+    let a = turns::next(data, undo, status, desk, 1);
     line(what, b"next 1", a);
-    m.desk
 }
 
 // Of row 0, by session s, which `call` names.
@@ -76,7 +75,7 @@ fn read<'a>(
     data: &'a [u8],
     undo: &'a [u8],
     status: &'a [u8],
-    desk: Desk,
+    desk: &'a Words,
     s: u64,
 ) {
     let r = rows::read(data, undo, status, desk, s, 0);
@@ -85,71 +84,75 @@ fn read<'a>(
 }
 
 // Of session 1.
-fn insert(what: &[u8], data: &mut [u8], undo: &[u8], status: &[u8], desk: Desk, body: &[u8]) {
+fn insert(what: &[u8], data: &mut [u8], undo: &[u8], status: &[u8], desk: &Words, body: &[u8]) {
     let i = rows::insert(data, undo, status, desk, 1, body);
     let a = i.answer;
     line(what, b"insert 1", a);
 }
 
 // Of session 3, and so the delete.
-fn update(what: &[u8], data: &mut [u8], undo: &mut [u8], status: &[u8], desk: Desk, body: &[u8]) {
+fn update<'a>(
+    what: &[u8],
+    data: &mut [u8],
+    undo: &mut [u8],
+    status: &'a [u8],
+    desk: &'a Words,
+    body: &[u8],
+) {
     let a = rows::update(data, undo, status, desk, 3, 0, body);
     line(what, b"update 3 0", a);
 }
 
-fn delete<'a>(what: &[u8], data: &mut [u8], undo: &'a [u8], status: &'a [u8], desk: Desk) {
+fn delete<'a>(what: &[u8], data: &mut [u8], undo: &'a [u8], status: &'a [u8], desk: &'a Words) {
     let a = rows::delete(data, undo, status, desk, 3, 0);
     line(what, b"delete 3 0", a);
 }
 
-fn commit(what: &[u8], data: &[u8], undo: &[u8], status: &mut [u8], desk: Desk) {
-    let m = turns::commit(data, undo, status, desk, 2);
-    let a = m.answer;
+fn commit(what: &[u8], data: &[u8], undo: &[u8], status: &mut [u8], desk: &mut Words) {
+    let a = turns::commit(data, undo, status, desk, 2);
     line(what, b"commit 2", a);
 }
 
-fn withdraw(what: &[u8], data: &mut [u8], undo: &mut [u8], status: &mut [u8], desk: Desk) {
-    let w = undoing::withdraw(data, undo, status, desk, 2);
-    let a = w.answer;
+fn withdraw(what: &[u8], data: &mut [u8], undo: &mut [u8], status: &mut [u8], desk: &mut Words) {
+    let a = undoing::withdraw(data, undo, status, desk, 2);
     line(what, b"withdraw 2", a);
 }
 
-fn sweep(what: &[u8], data: &mut [u8], undo: &mut [u8], status: &[u8], desk: Desk) {
+fn sweep(what: &[u8], data: &mut [u8], undo: &mut [u8], status: &[u8], desk: &Words) {
     let w = sweeping::sweep(data, undo, status, desk, 0, 127);
     let a = w.answer;
     line(what, b"sweep 0 127", a);
 }
 
-// A fresh store in which session 1 is open.
-fn begun(data: &mut [u8], undo: &mut [u8], status: &mut [u8]) -> Desk {
+// A fresh store in which session 1 is open, and the words of its desk.
+fn begun(data: &mut [u8], undo: &mut [u8], status: &mut [u8]) -> Words {
     let o = keep::format(data, undo, status);
     let fresh = o.desk;
-    let b = turns::begin(data, undo, status, fresh);
-    b.desk
+    let mut desk = words::words_of(fresh);
+    turns::begin(data, undo, status, &mut desk);
+    desk
 }
 
 // A store in which session 1 has inserted row 0 and committed.
-fn stocked(data: &mut [u8], undo: &mut [u8], status: &mut [u8]) -> Desk {
-    let desk = begun(data, undo, status);
-    rows::insert(data, undo, status, desk, 1, &OLD);
-    let m = turns::commit(data, undo, status, desk, 1);
-    m.desk
+fn stocked(data: &mut [u8], undo: &mut [u8], status: &mut [u8]) -> Words {
+    let mut desk = begun(data, undo, status);
+    rows::insert(data, undo, status, &desk, 1, &OLD);
+    turns::commit(data, undo, status, &mut desk, 1);
+    desk
 }
 
 // Opens two sessions.
-fn two_begun(data: &[u8], undo: &[u8], status: &mut [u8], desk: Desk) -> Desk {
-    let first = turns::begin(data, undo, status, desk);
-    let one = first.desk;
-    let second = turns::begin(data, undo, status, one);
-    second.desk
+fn two_begun(data: &[u8], undo: &[u8], status: &mut [u8], desk: &mut Words) {
+    turns::begin(data, undo, status, desk);
+    turns::begin(data, undo, status, desk);
 }
 
 // The stocked store in which sessions 2 and 3 are open and 2 has updated row 0: its slot points to the entry at offset 48 of undo page 1,
 // whose copy is what 3 reads.
-fn updated(data: &mut [u8], undo: &mut [u8], status: &mut [u8]) -> Desk {
-    let stock = stocked(data, undo, status);
-    let desk = two_begun(data, undo, status, stock);
-    rows::update(data, undo, status, desk, 2, 0, &NEW);
+fn updated(data: &mut [u8], undo: &mut [u8], status: &mut [u8]) -> Words {
+    let mut desk = stocked(data, undo, status);
+    two_begun(data, undo, status, &mut desk);
+    rows::update(data, undo, status, &desk, 2, 0, &NEW);
     desk
 }
 
@@ -167,57 +170,53 @@ fn two_status_pages() {
     let mut data = [0; 8192];
     let mut undo = [0; 8192];
     let mut status = [0; 16384];
-    let desk = Desk::fresh(Desk::FIRST_NUMBER);
+    let desk = words::words_of(Desk::fresh(Desk::FIRST_NUMBER));
     let what = b"status of 16,384 bytes";
     open(what, &data, &undo, &status);
-    seal(what, &mut data, &mut undo, &mut status, desk);
+    seal(what, &mut data, &mut undo, &mut status, &desk);
 }
 
-// A desk with these two sessions at its first places.
-fn desk_of(next: u64, first: u64, second: u64) -> Desk {
-    let mut numbers = [0; 16];
-    numbers[0] = first;
-    numbers[1] = second;
-    Desk {
-        next,
-        numbers,
-        statements: [0; 16],
-        lists: [0; 240],
-    }
+// The words of a desk with these two sessions at its first places.
+fn desk_of(next: u32, first: u32, second: u32) -> Words {
+    let mut desk = words::words_of(Desk::fresh(next));
+    desk[Layout::NUMBERS] = first;
+    desk[Layout::NUMBERS + 1] = second;
+    desk
 }
 
 // A call of each kind on a desk that is not sound. Each is refused and so alters nothing, and the next finds the same store and desk.
-fn try_desk(what: &[u8], data: &mut [u8], undo: &mut [u8], status: &mut [u8], desk: Desk) {
+fn try_desk(what: &[u8], data: &mut [u8], undo: &mut [u8], status: &mut [u8], desk: &mut Words) {
     begin(what, data, undo, status, desk);
     seal(what, data, undo, status, desk);
     sweep(what, data, undo, status, desk);
     read(what, b"read 1 0", data, undo, status, desk, 1);
 }
 
-fn on_desk(what: &[u8], desk: Desk) {
+fn on_desk(what: &[u8], next: u32, first: u32, second: u32) {
+    let mut desk = desk_of(next, first, second);
     let mut data = [0; 8192];
     let mut undo = [0; 8192];
     let mut status = [0; 8192];
     stocked(&mut data, &mut undo, &mut status);
-    try_desk(what, &mut data, &mut undo, &mut status, desk);
+    try_desk(what, &mut data, &mut undo, &mut status, &mut desk);
 }
 
 // 2: "desk unsound". "The desk holds the next number (1 to 32,576) and at most 16 open sessions in ascending order. Each has its number
 // (below next)".
 fn unsound_desks() {
-    on_desk(b"next is 0", desk_of(0, 0, 0));
-    on_desk(b"next is 32,577", desk_of(32577, 0, 0));
-    on_desk(b"session 2 before session 1", desk_of(3, 2, 1));
-    on_desk(b"session 1 twice", desk_of(3, 1, 1));
-    on_desk(b"session 3 where next is 3", desk_of(3, 1, 3));
-    on_desk(b"an unused place before session 1", desk_of(3, 0, 1));
+    on_desk(b"next is 0", 0, 0, 0);
+    on_desk(b"next is 32,577", 32577, 0, 0);
+    on_desk(b"session 2 before session 1", 3, 2, 1);
+    on_desk(b"session 1 twice", 3, 1, 1);
+    on_desk(b"session 3 where next is 3", 3, 1, 3);
+    on_desk(b"an unused place before session 1", 3, 0, 1);
 }
 
 // A store opened before it is sealed, and behind the seal.
 fn sealed(data: &mut [u8], undo: &mut [u8], status: &mut [u8]) {
     let desk = stocked(data, undo, status);
     open(b"not sealed after a change", data, undo, status);
-    seal(b"nothing", data, undo, status, desk);
+    seal(b"nothing", data, undo, status, &desk);
     open(b"nothing", data, undo, status);
 }
 
@@ -248,7 +247,7 @@ fn sealed_count() {
     let desk = stocked(&mut data, &mut undo, &mut status);
     put(&mut data, 38, 2);
     let what = b"item_count 2 for 1 row";
-    seal(what, &mut data, &mut undo, &mut status, desk);
+    seal(what, &mut data, &mut undo, &mut status, &desk);
     open(what, &data, &undo, &status);
 }
 
@@ -259,7 +258,8 @@ fn sealed_in_work() {
     let mut status = [0; 8192];
     begun(&mut data, &mut undo, &mut status);
     let what = b"a desk without session 1";
-    seal(what, &mut data, &mut undo, &mut status, Desk::fresh(2));
+    let desk = words::words_of(Desk::fresh(2));
+    seal(what, &mut data, &mut undo, &mut status, &desk);
     open(what, &data, &undo, &status);
 }
 
@@ -282,9 +282,9 @@ fn wrong_inserts() {
     let mut status = [0; 8192];
     let desk = begun(&mut data, &mut undo, &mut status);
     let what = b"a body of 31 bytes";
-    insert(what, &mut data, &undo, &status, desk, &[0; 31]);
+    insert(what, &mut data, &undo, &status, &desk, &[0; 31]);
     let more = b"a body of 33 bytes";
-    insert(more, &mut data, &undo, &status, desk, &[0; 33]);
+    insert(more, &mut data, &undo, &status, &desk, &[0; 33]);
 }
 
 // The lowest number first: another has updated the row, and yet the answer is 5 and not 9.
@@ -294,11 +294,11 @@ fn wrong_update() {
     let mut status = [0; 8192];
     let desk = updated(&mut data, &mut undo, &mut status);
     let what = b"a body of 31 bytes";
-    update(what, &mut data, &mut undo, &status, desk, &[0; 31]);
+    update(what, &mut data, &mut undo, &status, &desk, &[0; 31]);
 }
 
 // The five calls that follow a chain, on one damaged store: each is refused and so alters nothing.
-fn follow(what: &[u8], data: &mut [u8], undo: &mut [u8], status: &mut [u8], desk: Desk) {
+fn follow(what: &[u8], data: &mut [u8], undo: &mut [u8], status: &mut [u8], desk: &mut Words) {
     read(what, b"read 3 0", data, undo, status, desk, 3);
     update(what, data, undo, status, desk, &NEW);
     delete(what, data, undo, status, desk);
@@ -311,9 +311,9 @@ fn broken_slot(what: &[u8], at: usize, value: u8) {
     let mut data = [0; 8192];
     let mut undo = [0; 8192];
     let mut status = [0; 8192];
-    let desk = updated(&mut data, &mut undo, &mut status);
+    let mut desk = updated(&mut data, &mut undo, &mut status);
     put(&mut data, at, value);
-    follow(what, &mut data, &mut undo, &mut status, desk);
+    follow(what, &mut data, &mut undo, &mut status, &mut desk);
 }
 
 // A byte of the entry that the slot points to.
@@ -321,9 +321,9 @@ fn broken_entry(what: &[u8], at: usize, value: u8) {
     let mut data = [0; 8192];
     let mut undo = [0; 8192];
     let mut status = [0; 8192];
-    let desk = updated(&mut data, &mut undo, &mut status);
+    let mut desk = updated(&mut data, &mut undo, &mut status);
     put(&mut undo, at, value);
-    follow(what, &mut data, &mut undo, &mut status, desk);
+    follow(what, &mut data, &mut undo, &mut status, &mut desk);
 }
 
 // Makes the copy one of session 2's and its pointer, 16 bytes on, one to its own entry: an entry already passed.
@@ -338,31 +338,30 @@ fn ring() {
     let mut data = [0; 8192];
     let mut undo = [0; 8192];
     let mut status = [0; 8192];
-    let desk = updated(&mut data, &mut undo, &mut status);
+    let mut desk = updated(&mut data, &mut undo, &mut status);
     tie(&mut undo);
     let what = b"the entry leads to itself";
-    follow(what, &mut data, &mut undo, &mut status, desk);
+    follow(what, &mut data, &mut undo, &mut status, &mut desk);
 }
 
 // Whom a break does not meet: session 2 in its next statement, which finds its own version before it; a sweep of other rows; a commit.
-fn bypass(what: &[u8], data: &mut [u8], undo: &mut [u8], status: &mut [u8], desk: Desk) {
-    let m = turns::next(data, undo, status, desk, 2);
-    let moved = m.desk;
-    read(what, b"next 2, read 2 0", data, undo, status, moved, 2);
-    let w = sweeping::sweep(data, undo, status, moved, 1, 127);
+fn bypass(what: &[u8], data: &mut [u8], undo: &mut [u8], status: &mut [u8], desk: &mut Words) {
+    turns::next(data, undo, status, desk, 2);
+    read(what, b"next 2, read 2 0", data, undo, status, desk, 2);
+    let w = sweeping::sweep(data, undo, status, desk, 1, 127);
     let a = w.answer;
     line(what, b"sweep 1 127", a);
-    commit(what, data, undo, status, moved);
+    commit(what, data, undo, status, desk);
 }
 
 fn unmet() {
     let mut data = [0; 8192];
     let mut undo = [0; 8192];
     let mut status = [0; 8192];
-    let desk = updated(&mut data, &mut undo, &mut status);
+    let mut desk = updated(&mut data, &mut undo, &mut status);
     put(&mut data, POINTER + 7, 5);
     let what = b"pointer: top byte 5";
-    bypass(what, &mut data, &mut undo, &mut status, desk);
+    bypass(what, &mut data, &mut undo, &mut status, &mut desk);
 }
 
 // 6: "A chain is broken at a pointer that isn't well formed, leads outside the area or between entries, leads to a free entry, one of
@@ -388,9 +387,9 @@ fn numbers_used() {
     let mut undo = [0; 8192];
     let mut status = [0; 8192];
     keep::format(&mut data, &mut undo, &mut status);
-    let last = Desk::fresh(32575);
-    let used = begin(b"next is 32,575", &data, &undo, &mut status, last);
-    begin(b"next is 32,576", &data, &undo, &mut status, used);
+    let mut desk = words::words_of(Desk::fresh(32575));
+    begin(b"next is 32,575", &data, &undo, &mut status, &mut desk);
+    begin(b"next is 32,576", &data, &undo, &mut status, &mut desk);
 }
 
 // 14: "statement is 65,535". P11: "statement 65,534 moves on"; P12: "65,535 is refused".
@@ -399,9 +398,9 @@ fn statements_used() {
     let mut undo = [0; 8192];
     let mut status = [0; 8192];
     let mut desk = begun(&mut data, &mut undo, &mut status);
-    desk.statements[0] = 65534;
-    let used = next(b"statement is 65,534", &data, &undo, &status, desk);
-    next(b"statement is 65,535", &data, &undo, &status, used);
+    desk[Layout::STATEMENTS] = 65534;
+    next(b"statement is 65,534", &data, &undo, &status, &mut desk);
+    next(b"statement is 65,535", &data, &undo, &status, &mut desk);
 }
 
 fn main() {

@@ -2,6 +2,7 @@
 -- nothing.
 use Prim.Native.Nat.{ℕ}
 use lib.ListN.{replicate}
+use Rattle.columns.specs.Limits.{sessions, places}
 use Rattle.desk.specs.declared.Desk.{Desk}
 
 -- "the next number (1 to 32,576)"
@@ -17,7 +18,8 @@ firstStatement = 0
 
 -- "a desk without sessions"
 unfoldable pub freshDesk : ℕ → Desk
-freshDesk next = record { next = next; numbers = replicate 16 0; statements = replicate 16 0; lists = replicate 240 0 }
+freshDesk next =
+    record { next = next; numbers = replicate sessions 0; statements = replicate sessions 0; lists = replicate places 0 }
 
 -- what stands for a desk where none comes back: all its numbers are 0, and it is unsound
 abbrev pub noDesk : Desk

@@ -1,3 +1,4 @@
 pub mod Desk
+pub mod View
 pub mod Sound
 pub mod Turns

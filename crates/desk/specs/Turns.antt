@@ -7,7 +7,7 @@ use Rattle.columns.specs.Limits.{members}
 use Rattle.columns.specs.Columns.{without, markOf}
 use Rattle.places.specs.Open.{openCount}
 use Rattle.desk.specs.declared.Desk.{Desk}
-use Rattle.desk.specs.declared.View.{View}
+use Rattle.desk.specs.View.{View}
 use Rattle.desk.specs.Desk.{firstStatement}
 
 -- what the session at place k sees by: "its number .., its statement .. and the numbers open when it began"

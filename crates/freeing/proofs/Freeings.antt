@@ -1,5 +1,5 @@
--- The laws of emptying and freeing: what the functions compute, that an entry freed is free, and what is left as it was. Callers cite
--- these and unfold nothing. Assumes nothing.
+-- The laws of emptying and freeing: what the functions of withdraw compute (those of the sweep in Tallies), that an entry freed is free,
+-- and what is left as it was. Callers cite these and unfold nothing. Assumes nothing.
 use mathlib.Core.Path.{_≡_, ap, _∙_}
 use mathlib.Core.List.{List}
 use Prim.Native.Nat.{ℕ, _/_, _<_}
@@ -20,7 +20,7 @@ use Rattle.page.specs.Count.{counted, touched}
 use Rattle.page.proofs.Counts.{length-counted, length-touched, bytes-counted, bytes-touched, recordAt-counted, recordAt-touched, slotAt-counted, bodyAt-counted, slotAt-touched, entryAt-counted, copyBodyAt-counted, entryAt-touched}
 use Rattle.freeing.specs.Freeing.{withoutSlot, withoutEntry, sweptSlot, sweptEntry, cutSlot, cutCopy}
 
--- ---- what the functions compute: y is the area written, z the area touched or counted anew
+-- ---- what the functions of withdraw compute: y is the area written, z the area touched
 
 pub withoutSlot-stored : {y z : List ℕ} (txn r : ℕ) (d : List ℕ) → y ≡ clearSlot r d → z ≡ touched dataKind (r / 127) txn y → z ≡ withoutSlot txn r d
 unfolding withoutSlot
@@ -29,22 +29,6 @@ withoutSlot-stored txn r d e h = h ∙ ap (touched dataKind (r / 127) txn) e
 pub withoutEntry-stored : {y z : List ℕ} (txn e : ℕ) (u : List ℕ) → y ≡ clearEntry e u → z ≡ touched undoKind (e / 101) txn y → z ≡ withoutEntry txn e u
 unfolding withoutEntry
 withoutEntry-stored txn e u p h = h ∙ ap (touched undoKind (e / 101) txn) p
-
-pub sweptSlot-stored : {y z : List ℕ} (r : ℕ) (d : List ℕ) → y ≡ clearSlot r d → z ≡ counted dataKind (r / 127) y → z ≡ sweptSlot r d
-unfolding sweptSlot
-sweptSlot-stored r d e h = h ∙ ap (counted dataKind (r / 127)) e
-
-pub sweptEntry-stored : {y z : List ℕ} (e : ℕ) (u : List ℕ) → y ≡ clearEntry e u → z ≡ counted undoKind (e / 101) y → z ≡ sweptEntry e u
-unfolding sweptEntry
-sweptEntry-stored e u p h = h ∙ ap (counted undoKind (e / 101)) p
-
-pub cutSlot-stored : {y z : List ℕ} (r : ℕ) (m : Slot) (d : List ℕ) → y ≡ putMeta r m d → z ≡ counted dataKind (r / 127) y → z ≡ cutSlot r m d
-unfolding cutSlot
-cutSlot-stored r m d e h = h ∙ ap (counted dataKind (r / 127)) e
-
-pub cutCopy-stored : {y z : List ℕ} (e : ℕ) (m : Slot) (u : List ℕ) → y ≡ putCopy e m u → z ≡ counted undoKind (e / 101) y → z ≡ cutCopy e m u
-unfolding cutCopy
-cutCopy-stored e m u p h = h ∙ ap (counted undoKind (e / 101)) p
 
 -- ---- what is left as it was: said once, over the record size, of any store inside a record whose page is then touched or counted
 -- anew. Of that step only this is needed: it leaves every record, and the length

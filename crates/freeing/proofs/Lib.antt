@@ -1,1 +1,2 @@
 pub mod Freeings
+pub mod Tallies

@@ -17,7 +17,7 @@ use Rattle.columns.specs.Columns.{smallest, markOf}
 use Rattle.places.specs.Open.{placeIn, isOpen}
 use Rattle.places.specs.Places.{follows, placed, ascending, sessionSound}
 use Rattle.desk.specs.declared.Desk.{Desk}
-use Rattle.desk.specs.declared.View.{View}
+use Rattle.desk.specs.View.{View}
 use Rattle.desk.specs.Desk.{freshDesk}
 use Rattle.desk.specs.Sound.{soundColumns, sound}
 use Rattle.desk.specs.Turns.{moved, mark}

@@ -8,7 +8,7 @@ use native.Mathlib.Omega.{arith}
 use lib.ListN.{length}
 use Rattle.kind.specs.Kind.{entries}
 use Rattle.desk.specs.declared.Desk.{Desk}
-use Rattle.desk.specs.declared.View.{View}
+use Rattle.desk.specs.View.{View}
 use Rattle.records.specs.Slot.{slotAt}
 use Rattle.chain.specs.declared.Walk.{Walk}
 use Rattle.chain.specs.declared.Walk.the-variants.{Found, Absent, Broken}

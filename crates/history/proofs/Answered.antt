@@ -7,7 +7,7 @@ use mathlib.Core.List.{List, [], _∷_}
 use borrow.Author.Tests.{lt-leb, le-leb}
 use Rattle.ground.specs.Refuse.{firstOf, settle}
 use Rattle.places.specs.Open.{isOpen}
-use Rattle.desk.specs.declared.View.{View}
+use Rattle.desk.specs.View.{View}
 use Rattle.kind.specs.Kind.{rows}
 use Rattle.chain.specs.declared.Place.{Place}
 use Rattle.chain.specs.declared.Place.the-variants.{Nowhere}

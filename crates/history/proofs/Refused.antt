@@ -19,7 +19,7 @@ use Rattle.vacant.specs.Vacant.{lowestEmpty, lowestFree}
 use Rattle.keep.specs.Whole.{storeRight}
 use Rattle.records.specs.declared.slot.Slot.{Slot}
 use Rattle.records.specs.Slot.{slotAt}
-use Rattle.desk.specs.declared.View.{View}
+use Rattle.desk.specs.View.{View}
 use Rattle.chain.specs.declared.Walk.the-variants.{Found}
 use Rattle.chain.specs.Chain.{Version, chainOf}
 use Rattle.chain.specs.Walk.{firstIn, walkRule, thereIn}

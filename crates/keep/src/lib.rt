@@ -3,12 +3,14 @@ use answer::Answer;
 use desk::Desk;
 use kind::Kind;
 use status::Status;
+use words::Words;
 ghost use mathlib.Core.Path.{_≡_};
 ghost use Prim.Native.Nat.{_*_, _≤_};
 ghost use lib.ListN.{length};
 ghost use Rattle.ground.specs.Does.{Does};
 ghost use Rattle.answer.specs.Code.{codeOf};
 ghost use Rattle.desk.specs.Desk.{noDesk};
+ghost use Rattle.words.specs.Words.{deskIn};
 ghost use Rattle.kind.specs.Kind.{pageSize, pages};
 ghost use Rattle.page.specs.Count.{Roomy};
 ghost use Rattle.kind.specs.Areas.{areas};
@@ -74,16 +76,16 @@ fn seal_area(s: &mut [u8])
 }
 
 // Writes the checksum of every page, once no session is open.
-pub fn seal(data: &mut [u8], undo: &mut [u8], status: &mut [u8], desk: Desk) -> Answer
-    ensures { λ r. ⌜ Does (sealRule (areas (now («data» .entry)) (now (undo .entry)) (now (status .entry))) desk) (codeOf r) (areas (now («data» .exit)) (now (undo .exit)) (now (status .exit))) ⌝ }
+pub fn seal(data: &mut [u8], undo: &mut [u8], status: &mut [u8], desk: &Words) -> Answer
+    ensures { λ r. ⌜ Does (sealRule (areas (now («data» .entry)) (now (undo .entry)) (now (status .entry))) (deskIn (now (desk .entry)))) (codeOf r) (areas (now («data» .exit)) (now (undo .exit)) (now (status .exit))) ⌝ }
 {
     if !kind::lengths_ok(data.len(), undo.len(), status.len()) {
         return Answer::BadLength;
     }
-    if !desk::columns_sound(desk.next, &desk.numbers, &desk.statements, &desk.lists) {
+    if !words::is_sound(desk) {
         return Answer::Unsound;
     }
-    if places::open_count(&desk.numbers) != 0 {
+    if words::open_count(desk) != 0 {
         return Answer::StillOpen;
     }
     seal_area(data);
@@ -165,6 +167,6 @@ pub fn open(data: &[u8], undo: &[u8], status: &[u8]) -> Opened
     }
     Opened {
         answer: Answer::Done,
-        desk: Desk::fresh(top + 1),
+        desk: Desk::fresh((top + 1) as u32),
     }
 }

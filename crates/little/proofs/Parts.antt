@@ -163,6 +163,23 @@ sets-sets-inside s at x k (v ∷ vs) h =
     ∙ ap (λ (y : List ℕ). sets y (at + suc k) vs) (set-sets-inside s at x k v (omega arith))
     ∙ sets-sets-inside s at (set x k v) (suc k) vs (simp length-set (omega arith))
 
+-- stores at disjoint places, in either order; and as many bytes stored over what was stored
+pub sets-comm : (s : List ℕ) (at : ℕ) (x : List ℕ) (bt : ℕ) (y : List ℕ) → at + length x ≤ bt → sets (sets s bt y) at x ≡ sets (sets s at x) bt y
+sets-comm s at [] bt y h = refl
+sets-comm s at (a ∷ x) bt y h =
+    ap (λ (l : List ℕ). sets l (suc at) x) (set-sets-below s at bt a y (omega arith))
+    ∙ sets-comm (set s at a) (suc at) x bt y (omega arith)
+
+pub sets-again : (s : List ℕ) (at : ℕ) (x y : List ℕ) → length x ≡ length y → sets (sets s at x) at y ≡ sets s at y
+sets-again s at [] [] e = refl
+sets-again s at [] (b ∷ y) e = absurd (omega arith)
+sets-again s at (a ∷ x) [] e = absurd (omega arith)
+sets-again s at (a ∷ x) (b ∷ y) e =
+    ap (λ (l : List ℕ). sets l (suc at) y)
+    (set-sets-below (set s at a) at (suc at) b x (omega arith)
+    ∙ ap (λ (l : List ℕ). sets l (suc at) x) (set-set s at a b))
+    ∙ sets-again (set s at b) (suc at) x y (omega arith)
+
 -- a list stored over as many elements, and over the front of a longer one
 pub sets-front : (l vs : List ℕ) → length vs ≤ length l → sets l 0 vs ≡ vs ++ drop (length vs) l
 sets-front l vs h = sets-eq vs l 0 (omega arith) ∙ ap (λ (n : ℕ). vs ++ drop n l) (zero-add (length vs))

@@ -13,7 +13,7 @@ use Rattle.ground.specs.Range.{countBelow}
 use Rattle.ground.proofs.Ranges.{count-agree}
 use Rattle.little.specs.Little.{little, digits, part, Bytes}
 use Rattle.little.proofs.Digits.{length-digits}
-use Rattle.little.proofs.Parts.{part-part}
+use Rattle.little.proofs.Parts.{part-part, part-sets-above}
 use Rattle.kind.specs.declared.Kind.{Kind}
 use Rattle.kind.specs.Kind.{dataKind, undoKind}
 use Rattle.kind.specs.Place.{numberOf, placeOf, recordAt}
@@ -35,6 +35,13 @@ pub counted-store : {y : List ℕ} (k : Kind) (p : ℕ) (s : List ℕ) (n : ℕ)
     → y ≡ counted k p s
 unfolding counted putField
 counted-store k p s n h q = q ∙ ap (λ (v : ℕ). sets s (p * 8192 + 38) (digits 2 v)) (h ∙ ap (itemsIn k) (pageAt-lent p s))
+
+-- what is stored into the header is no record
+pub itemsIn-header : (k : Kind) (o : ℕ) (page vs : List ℕ) → o + length vs ≤ 48 → itemsIn k (sets page o vs) ≡ itemsIn k page
+unfolding itemsIn inUse
+itemsIn-header k o page vs h =
+    count-agree (inUse (k .size) (sets page o vs)) (inUse (k .size) page) (k .count)
+    (λ i l. ap (λ (b : List ℕ). not (eqb (little b) 0)) (part-sets-above (48 + i * k .size) 8 page o vs (omega arith)))
 
 -- record i of page p is in use where its first 8 bytes, as record of the area, are not 0
 inUse-recordAt : {size count : ℕ} → Lie 8192 size count → 8 ≤ size → (p i : ℕ) (s : List ℕ) → i < count

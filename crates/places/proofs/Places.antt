@@ -61,14 +61,6 @@ module _ (top : ℕ) (l : List ℕ) (at : ℕ) where
   run-start = record { passed = refl; carried = refl }
 
   module _ {i low : ℕ} (r : Run i low) where
-    pub run-unused : getD l (at + i) 0 ≡ 0 → {next : ℕ} → next ≡ top → Run (i + 1) next
-    unfolding ascending lowAt
-    run-unused e q =
-        record {
-          passed = all-more (placed top l at) i (r .passed) (rw (placed-low, e));
-          carried = rw (q, add-one, e);
-        }
-
     pub run-number : (getD l (at + i) 0 ≡ 0 → ⊥)
         → (ltb (getD l (at + i) 0) top && ltb low (getD l (at + i) 0)) ≡ true
         → {next : ℕ}

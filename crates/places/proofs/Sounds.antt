@@ -1,13 +1,19 @@
--- When a place of a desk is sound, by whether it is open. Assumes nothing.
-use mathlib.Core.Path.{_≡_, refl, sym, _∙_}
-use mathlib.Core.Bool.{_&&_}
+-- When a place of a desk is sound, by whether it is open; and when all are, where the sessions end before the last place. Assumes
+-- nothing.
+use mathlib.Core.Path.{_≡_, refl, sym, ap, ap₂, _∙_}
+use mathlib.Core.Bool.{Bool, true, _&&_}
 use mathlib.Core.List.{List}
-use Prim.Native.Nat.{ℕ, zero, suc, _*_}
+use Prim.Native.Nat.{ℕ, zero, suc, _+_, _-_, _*_, _≤_, _<_}
+use native.Mathlib.Nat.{add-zero, add-suc, zero-add}
+use native.Mathlib.Omega.{arith}
 use lib.ListN.{getD}
 use lib.Dec.{eqb, leb, leb·suc-zero, eqb·suc-zero}
 use borrow.Author.Tests.{ne-eqb}
-use Rattle.columns.specs.Limits.{members, lastStatement}
-use Rattle.places.specs.Places.{ascending, sessionSound}
+use Rattle.ground.specs.Range.{allBelow}
+use Rattle.ground.proofs.Ranges.{all-at, all-intro}
+use Rattle.columns.specs.Limits.{sessions, members, places, lastStatement}
+use Rattle.places.specs.Places.{placed, ascending, sessionSound}
+use Rattle.places.proofs.Runs.{and-mix, unused-none, unused-suc, unused-split, unused-at, behind}
 
 leb-zero : (n : ℕ) → leb n 0 ≡ eqb n 0
 leb-zero zero = refl
@@ -24,3 +30,64 @@ module _ (numbers statements lists : List ℕ) (k : ℕ) where
       ≡ (leb (getD statements k 0) lastStatement && ascending (getD numbers k 0) lists (k * members) members)
   unfolding sessionSound
   session-open u = rw (ne-eqb (getD numbers k 0) 0 u)
+
+-- ---- where place k is the first unused one
+
+module _ (numbers statements lists : List ℕ) (k : ℕ) where
+  -- no place behind an unused one has a number
+  numbers-behind : (next : ℕ) → ascending next numbers 0 sessions ≡ true → k < sessions → getD numbers k 0 ≡ 0
+      → (m : ℕ) → k + m < sessions → getD numbers (k + m) 0 ≡ 0
+  unfolding ascending
+  numbers-behind next asc h e m l =
+      let here : 0 + k ≡ k = omega arith in
+      unused-at numbers k (sessions - k) m
+      (ap (λ (i : ℕ). ascending 0 numbers i (sessions - k)) (sym here) ∙ rest here)
+      (omega arith)
+    where
+      front : ascending next numbers 0 k ≡ true
+      front = all-intro (placed next numbers 0) k (λ i g. all-at (placed next numbers 0) sessions asc i (omega arith))
+
+      rest : 0 + k ≡ k → ascending 0 numbers (0 + k) (sessions - k) ≡ true
+      rest here =
+          let w : 0 + sessions - (0 + k) ≡ sessions - k = omega arith in
+          ap (ascending 0 numbers (0 + k)) (sym w)
+          ∙ sym (behind next numbers 0 k front (ap (λ (i : ℕ). getD numbers i 0) here ∙ e) sessions (omega arith))
+          ∙ asc
+
+  -- m more places, none of them open
+  sessions-behind : allBelow (sessionSound numbers statements lists) k ≡ true
+      → (m : ℕ)
+      → ((i : ℕ) → i < m → getD numbers (k + i) 0 ≡ 0)
+      → allBelow (sessionSound numbers statements lists) (k + m) ≡ (ascending 0 statements k m && ascending 0 lists (k * members) (m * members))
+  unfolding allBelow
+  sessions-behind sound zero none =
+      ap (allBelow (sessionSound numbers statements lists)) (add-zero k)
+      ∙ sound
+      ∙ sym (ap₂ (λ (a b : Bool). a && b) (unused-none statements k) (unused-none lists (k * members)))
+  sessions-behind sound (suc m) none =
+      let place : k * members + m * members ≡ (k + m) * members = omega arith in
+      let more : m * members + members ≡ suc m * members = omega arith in
+      ap (allBelow (sessionSound numbers statements lists)) (add-suc k m)
+      ∙ ap₂ (λ (a b : Bool). a && b)
+      (sessions-behind sound m (λ i l. none i (omega arith)))
+      (session-unused numbers statements lists (k + m) (none m (omega arith)))
+      ∙ and-mix (ascending 0 statements k m) (ascending 0 lists (k * members) (m * members)) _ _
+      ∙ ap₂ (λ (a b : Bool). a && b)
+      (sym (unused-suc statements k m))
+      (ap (λ (i : ℕ). ascending 0 lists (k * members) (m * members) && ascending 0 lists i members) (sym place)
+      ∙ sym (unused-split lists (k * members) (m * members) members)
+      ∙ ap (ascending 0 lists (k * members)) more)
+
+  -- the statements and the lists from there on are unused
+  pub sessions-rest : (next : ℕ) → ascending next numbers 0 sessions ≡ true
+      → allBelow (sessionSound numbers statements lists) k ≡ true
+      → k < sessions
+      → getD numbers k 0 ≡ 0
+      → allBelow (sessionSound numbers statements lists) sessions
+      ≡ (ascending 0 statements k (sessions - k) && ascending 0 lists (k * members) (places - k * members))
+  sessions-rest next asc sound h e =
+      let all : k + (sessions - k) ≡ sessions = omega arith in
+      let wide : (sessions - k) * members ≡ places - k * members = omega arith in
+      ap (allBelow (sessionSound numbers statements lists)) (sym all)
+      ∙ sessions-behind sound (sessions - k) (λ i l. numbers-behind next asc h e i (omega arith))
+      ∙ ap (λ (n : ℕ). ascending 0 statements k (sessions - k) && ascending 0 lists (k * members) n) wide

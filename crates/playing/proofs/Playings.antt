@@ -1,6 +1,6 @@
 -- A played call, from what its own function ensures and from what is said of it. Assumes nothing.
 use Prim.Native.Nat.{ℕ, _+_}
-use mathlib.Core.Path.{_≡_, ap, subst⁻¹, _∙_}
+use mathlib.Core.Path.{_≡_, ap, subst, subst⁻¹, _∙_}
 use mathlib.Core.List.{List}
 use lib.ListN.{length}
 use lib.Seq.{sets}
@@ -31,6 +31,13 @@ plays t at buffer r left behind fields code said desk leaves says =
   where
     line : answerLine (r .code) fields ≡ lineOf t
     line = ap (λ (n : ℕ). answerLine n fields) code ∙ ap (answerLine (t .code)) said
+
+-- the call of the desk that the words say is the call of the desk that they were made of
+pub on-desk : (rule : Desk → Turn) {d e : Desk} {at : ℕ} {buffer : List ℕ} {r : Played} {left : Areas} {behind : List ℕ}
+    → d ≡ e
+    → Plays (rule d) at buffer r left behind
+    → Plays (rule e) at buffer r left behind
+on-desk rule {at = at} {buffer} {r} {left} {behind} same played = subst (λ (d : Desk). Plays (rule d) at buffer r left behind) same played
 
 -- a call, by its name
 pub play-by : (v : Verb) (a : Areas) (d : Desk) (c : Call) (at : ℕ) (buffer : List ℕ) (r : Played) (left : Areas) (behind : List ℕ)

@@ -1,13 +1,16 @@
 // One call of a script, played on a store, and its answer written as a line ("01, The script and one whole run"). Nothing is decided
-// here: each call is handed to its own function, and what that answers is said.
+// here: each call is handed to its own function, and what that answers is said. The script's station carries a Desk from line to line,
+// so a call's words are made of it once, and where the call changes them, the Desk of them again.
 use desk::Desk;
 use line::Call;
 use line::Verb;
+use words::Words;
 ghost use mathlib.Core.Path.{_≡_};
 ghost use mathlib.Core.List.{[]};
 ghost use Prim.Native.Nat.{_+_, _≤_};
 ghost use lib.ListN.{length};
 ghost use Rattle.kind.specs.Areas.{areas};
+ghost use Rattle.words.specs.Words.{deskIn};
 ghost use Rattle.reply.specs.Reply.{longest, Says, answerLine};
 ghost use Rattle.playing.specs.Playing.{Plays, playRule, formatTurn, openTurn, sealTurn, beginTurn, nextTurn, insertTurn, updateTurn, deleteTurn, readTurn, commitTurn, withdrawTurn, sweepTurn};
 
@@ -20,6 +23,14 @@ pub struct Played {
 
 // "An ill-formed, too long or unended line, or a number above 2^64 − 1, answers one 16"
 pub const ILL_FORMED: u32 = 16;
+
+// The desk that a call left in its words. They are lent whole: what a call had as `&mut` comes back without its length, which a
+// reference to all of them says by itself.
+fn desk_left(words: &Words) -> Desk
+    ensures { λ r. ⌜ r ≡ deskIn (now (words .entry)) ⌝ }
+{
+    words::desk_in(words)
+}
 
 // Formats what is lent; a refusal leaves the desk as it was.
 fn format(
@@ -80,7 +91,8 @@ fn seal(
     requires { ⌜ at + longest ≤ length (now out) ⌝ }
     ensures { λ r. ⌜ Plays (sealTurn (areas (now («data» .entry)) (now (undo .entry)) (now (status .entry))) desk) at (now (out .entry)) r (areas (now («data» .exit)) (now (undo .exit)) (now (status .exit))) (now (out .exit)) ⌝ }
 {
-    let a = keep::seal(data, undo, status, desk);
+    let w = words::words_of(desk);
+    let a = keep::seal(data, undo, status, &w);
     let code = answer::code(a);
     let end = reply::plain(out, at, code);
     Played { code, desk, end }
@@ -97,9 +109,10 @@ fn begin(
     requires { ⌜ at + longest ≤ length (now out) ⌝ }
     ensures { λ r. ⌜ Plays (beginTurn (areas (now («data» .entry)) (now (undo .entry)) (now (status .entry))) desk) at (now (out .entry)) r (areas (now («data» .entry)) (now (undo .entry)) (now (status .exit))) (now (out .exit)) ⌝ }
 {
-    let b = turns::begin(data, undo, status, desk);
+    let mut w = words::words_of(desk);
+    let b = turns::begin(data, undo, status, &mut w);
     let a = b.answer;
-    let desk = b.desk;
+    let desk = desk_left(&w);
     let code = answer::code(a);
     let end = reply::numbered(out, at, code, b.number);
     Played { code, desk, end }
@@ -117,9 +130,9 @@ fn next(
     requires { ⌜ at + longest ≤ length (now out) ⌝ }
     ensures { λ r. ⌜ Plays (nextTurn (areas (now («data» .entry)) (now (undo .entry)) (now (status .entry))) desk session) at (now (out .entry)) r (areas (now («data» .entry)) (now (undo .entry)) (now (status .entry))) (now (out .exit)) ⌝ }
 {
-    let m = turns::next(data, undo, status, desk, session);
-    let a = m.answer;
-    let desk = m.desk;
+    let mut w = words::words_of(desk);
+    let a = turns::next(data, undo, status, &mut w, session);
+    let desk = desk_left(&w);
     let code = answer::code(a);
     let end = reply::plain(out, at, code);
     Played { code, desk, end }
@@ -138,7 +151,8 @@ fn insert(
     requires { ⌜ at + longest ≤ length (now out) ⌝ }
     ensures { λ r. ⌜ Plays (insertTurn (areas (now («data» .entry)) (now (undo .entry)) (now (status .entry))) desk session (now (body .entry))) at (now (out .entry)) r (areas (now («data» .exit)) (now (undo .entry)) (now (status .entry))) (now (out .exit)) ⌝ }
 {
-    let i = rows::insert(data, undo, status, desk, session, body);
+    let w = words::words_of(desk);
+    let i = rows::insert(data, undo, status, &w, session, body);
     let a = i.answer;
     let code = answer::code(a);
     let end = reply::numbered(out, at, code, i.row as u64);
@@ -159,7 +173,8 @@ fn update(
     requires { ⌜ at + longest ≤ length (now out) ⌝ }
     ensures { λ r. ⌜ Plays (updateTurn (areas (now («data» .entry)) (now (undo .entry)) (now (status .entry))) desk session row (now (body .entry))) at (now (out .entry)) r (areas (now («data» .exit)) (now (undo .exit)) (now (status .entry))) (now (out .exit)) ⌝ }
 {
-    let a = rows::update(data, undo, status, desk, session, row, body);
+    let w = words::words_of(desk);
+    let a = rows::update(data, undo, status, &w, session, row, body);
     let code = answer::code(a);
     let end = reply::plain(out, at, code);
     Played { code, desk, end }
@@ -178,7 +193,8 @@ fn delete<'a>(
     requires { ⌜ at + longest ≤ length (now out) ⌝ }
     ensures { λ r. ⌜ Plays (deleteTurn (areas (now («data» .entry)) (now (undo .entry)) (now (status .entry))) desk session row) at (now (out .entry)) r (areas (now («data» .exit)) (now (undo .entry)) (now (status .entry))) (now (out .exit)) ⌝ }
 {
-    let a = rows::delete(data, undo, status, desk, session, row);
+    let w = words::words_of(desk);
+    let a = rows::delete(data, undo, status, &w, session, row);
     let code = answer::code(a);
     let end = reply::plain(out, at, code);
     Played { code, desk, end }
@@ -197,7 +213,8 @@ fn read<'a>(
     requires { ⌜ at + longest ≤ length (now out) ⌝ }
     ensures { λ r. ⌜ Plays (readTurn (areas (now («data» .entry)) (now (undo .entry)) (now (status .entry))) desk session row) at (now (out .entry)) r (areas (now («data» .entry)) (now (undo .entry)) (now (status .entry))) (now (out .exit)) ⌝ }
 {
-    let r = rows::read(data, undo, status, desk, session, row);
+    let w = words::words_of(desk);
+    let r = rows::read(data, undo, status, &w, session, row);
     let a = r.answer;
     let place = r.place;
     let code = answer::code(a);
@@ -218,9 +235,9 @@ fn commit(
     requires { ⌜ at + longest ≤ length (now out) ⌝ }
     ensures { λ r. ⌜ Plays (commitTurn (areas (now («data» .entry)) (now (undo .entry)) (now (status .entry))) desk session) at (now (out .entry)) r (areas (now («data» .entry)) (now (undo .entry)) (now (status .exit))) (now (out .exit)) ⌝ }
 {
-    let m = turns::commit(data, undo, status, desk, session);
-    let a = m.answer;
-    let desk = m.desk;
+    let mut w = words::words_of(desk);
+    let a = turns::commit(data, undo, status, &mut w, session);
+    let desk = desk_left(&w);
     let code = answer::code(a);
     let end = reply::plain(out, at, code);
     Played { code, desk, end }
@@ -238,9 +255,9 @@ fn withdraw(
     requires { ⌜ at + longest ≤ length (now out) ⌝ }
     ensures { λ r. ⌜ Plays (withdrawTurn (areas (now («data» .entry)) (now (undo .entry)) (now (status .entry))) desk session) at (now (out .entry)) r (areas (now («data» .exit)) (now (undo .exit)) (now (status .exit))) (now (out .exit)) ⌝ }
 {
-    let w = undoing::withdraw(data, undo, status, desk, session);
-    let a = w.answer;
-    let desk = w.desk;
+    let mut w = words::words_of(desk);
+    let a = undoing::withdraw(data, undo, status, &mut w, session);
+    let desk = desk_left(&w);
     let code = answer::code(a);
     let end = reply::plain(out, at, code);
     Played { code, desk, end }
@@ -259,7 +276,8 @@ fn sweep(
     requires { ⌜ at + longest ≤ length (now out) ⌝ }
     ensures { λ r. ⌜ Plays (sweepTurn (areas (now («data» .entry)) (now (undo .entry)) (now (status .entry))) desk first quota) at (now (out .entry)) r (areas (now («data» .exit)) (now (undo .exit)) (now (status .entry))) (now (out .exit)) ⌝ }
 {
-    let s = sweeping::sweep(data, undo, status, desk, first, quota);
+    let w = words::words_of(desk);
+    let s = sweeping::sweep(data, undo, status, &w, first, quota);
     let a = s.answer;
     let code = answer::code(a);
     let end = reply::paired(out, at, code, s.next as u64, s.removed as u64);

@@ -1,15 +1,18 @@
--- Undo pointers: the pointer to an entry leads to it, and what leads to an entry is the pointer to it, inside the area. Over any
--- record size and records to a page, then at the geometry of undo pages. Assumes nothing.
+-- Undo pointers: the pointer to an entry leads to it, and what leads to an entry is the pointer to it, inside the area, and names
+-- the byte where it begins. Over any page size, record size and records to a page, then at the geometry of undo pages. Assumes
+-- nothing.
 use mathlib.Core.Path.{_≡_, refl, sym, ap, ap₂, _∙_}
-use mathlib.Core.Bool.{Bool, true, false, _&&_, cond}
+use mathlib.Core.Bool.{Bool, true, false, _&&_, cond, and-true, and-false}
 use Prim.Native.Nat.{ℕ, suc, _+_, _-_, _*_, _/_, _%_, _^_, _≤_, _<_}
-use native.Mathlib.Nat.{mod-lt, div-add-mod', div-lt-iff-lt-mul, mul-le-mul-right, suc-mul, mul-mod-left, mul-div-cancel}
+use native.Mathlib.Nat.{mod-lt, div-add-mod', div-lt-iff-lt-mul, le-div-iff-mul-le, mul-le-mul-right, suc-mul, mul-mod-left, mul-div-cancel}
 use native.Mathlib.Omega.{arith}
 use lib.Arith.{digits-lt, digits-div, digits-mod}
 use lib.Dec.{eqb, leb, ltb}
-use borrow.Author.Tests.{eqb-true, leb-true, ltb-true, eq-eqb, le-leb, lt-ltb, lt-leb, ne-eqb}
+use borrow.Author.Tests.{eqb-true, leb-true, ltb-true, ltb-false, eq-eqb, le-leb, lt-ltb, le-ltb, lt-leb, ne-eqb}
 use Rattle.ground.proofs.Ranges.{and-true-left, and-true-right}
-use Rattle.pointer.specs.Pointer.{pointerAt, pointerFor, pageIn, offsetIn, wellFormed, atEntry, entryNamed, leads, pointerTo, leadOf}
+use Rattle.kind.specs.Place.{placeOf}
+use Rattle.kind.proofs.Places.{Lie, placeOf-numberOf}
+use Rattle.pointer.specs.Pointer.{pointerAt, pointerFor, pageIn, offsetIn, wellFormed, atEntry, entryNamed, placeNamed, leads, pointerTo, leadOf, placeIn}
 use Rattle.pointer.specs.declared.Lead.the-variants.{Nowhere, Entry, Astray}
 
 -- ---- a pointer and its parts
@@ -163,6 +166,17 @@ module _ (size count : ℕ) (wide : 0 < size) (some : 0 < count) (room : 48 + co
       pointerAt-parts v (l .formed)
       ∙ ap₂ pointerAt (omega (arith, l .low)) (sym (place .1) ∙ ap (λ (x : ℕ). 48 + x * size) (sym rest))
 
+  -- and its page and offset name the byte where that entry begins
+  pub placeNamed-leads : {bytes : ℕ} → Lie bytes size count → (n v e : ℕ) → leads size count n v ≡ Entry e
+      → placeNamed bytes (pageIn v) (offsetIn v) ≡ placeOf bytes size count e
+  placeNamed-leads {bytes} lie n v e h =
+      let l : Led size count n v e = leads-led size count n v e h in
+      let k : ℕ = (offsetIn v - 48) / size in
+      let place : (k < count) × (48 + k * size ≡ offsetIn v) = atEntry-index (offsetIn v) (l .inside) in
+      ap (placeNamed bytes (pageIn v)) (sym (place .1))
+      ∙ sym (placeOf-numberOf lie (pageIn v - 1) k (place .0))
+      ∙ ap (placeOf bytes size count) (l .names)
+
 -- ---- undo pages
 
 pub leadOf-pointerTo : (n e : ℕ) → e < n * 101 → n < 2 ^ 32 → leadOf n (pointerTo e) ≡ Entry e
@@ -199,6 +213,15 @@ pub pointerTo-leadOf : (n v e : ℕ) → leadOf n v ≡ Entry e → v ≡ pointe
 unfolding leadOf pointerTo
 pointerTo-leadOf = pointerFor-leads 80 101 (omega arith) (omega arith) (omega arith)
 
+pub leadOf-page : (n v e : ℕ) → leadOf n v ≡ Entry e → 1 ≤ pageIn v
+unfolding leadOf
+leadOf-page n v e h = leads-led 80 101 n v e h .low
+
+pub placeIn-leadOf : (n v e : ℕ) → leadOf n v ≡ Entry e → placeIn v ≡ placeOf 8192 80 101 e
+unfolding leadOf placeIn
+placeIn-leadOf =
+    placeNamed-leads 80 101 (omega arith) (omega arith) (omega arith) (record { some = omega arith; room = omega arith })
+
 pub pointerTo-some : (e : ℕ) → pointerTo e ≡ 0 → ⊥
 unfolding pointerTo
 pointerTo-some e h = omega arith
@@ -218,21 +241,31 @@ pub atEntry-header : (size count o : ℕ) → o < 48 → atEntry size count o �
 unfolding atEntry
 atEntry-header size count o h = rw (lt-leb 48 o h)
 
-pub atEntry-behind : (size count o : ℕ) → 48 ≤ o → atEntry size count o ≡ (eqb ((o - 48) % size) 0 && ltb ((o - 48) / size) count)
+-- the bound is one of the offset, and no quotient is needed
+pub atEntry-behind : (size count o : ℕ) → 0 < size → 48 ≤ o → atEntry size count o ≡ (ltb (o - 48) (count * size) && eqb ((o - 48) % size) 0)
 unfolding atEntry
-atEntry-behind size count o h = rw (le-leb 48 o h)
+atEntry-behind size count o wide h = rw (le-leb 48 o h) (by (ltb (o - 48) (count * size)) refl (eqb ((o - 48) % size) 0))
+  where
+    below : o - 48 < count * size → ltb ((o - 48) / size) count ≡ true
+    below l = lt-ltb ((o - 48) / size) count (div-lt-iff-lt-mul {k = size} {x = o - 48} {y = count} wide .1 l)
 
-module _ (n v : ℕ) (f a : Bool) (well : f ≡ wellFormed v) (entry : a ≡ atEntry 80 101 (offsetIn v)) where
+    past : count * size ≤ o - 48 → ltb ((o - 48) / size) count ≡ false
+    past l = le-ltb ((o - 48) / size) count (le-div-iff-mul-le {k = size} {x = count} {y = o - 48} wide .1 l)
+
+    by : (t : Bool) → ltb (o - 48) (count * size) ≡ t → (r : Bool) → (r && ltb ((o - 48) / size) count) ≡ (t && r)
+    by true e r = rw (below (ltb-true (o - 48) (count * size) e), and-true)
+    by false e r = rw (past (ltb-false (o - 48) (count * size) e), and-false)
+
+module _ (n v p o : ℕ) (f a : Bool) (page : p ≡ pageIn v) (offset : o ≡ offsetIn v) (well : f ≡ wellFormed v) (entry : a ≡ atEntry 80 101 o) where
   pub leadOf-tests : (v ≡ 0 → ⊥)
-      → leadOf n v ≡ cond (((f && leb 1 (pageIn v)) && leb (pageIn v) n) && a) (Entry (entryNamed 80 101 (pageIn v) (offsetIn v))) Astray
+      → leadOf n v ≡ cond (((f && leb 1 p) && leb p n) && a) (Entry (entryNamed 80 101 p o)) Astray
   unfolding leadOf leads
-  leadOf-tests ne = rw (ne-eqb v 0 ne, well, entry)
+  leadOf-tests ne = rw (ne-eqb v 0 ne, well, entry, page, offset)
 
-  pub leadOf-passed : ((f && leb 1 (pageIn v)) && leb (pageIn v) n) && a ≡ true → (1 ≤ pageIn v) × (48 ≤ offsetIn v)
+  pub leadOf-passed : ((f && leb 1 p) && leb p n) && a ≡ true → (1 ≤ p) × (48 ≤ o)
   unfolding atEntry
   leadOf-passed h =
-      let fb : Bool = f && leb 1 (pageIn v) in
-      let o : ℕ = offsetIn v in (
-        leb-true 1 (pageIn v) (and-true-right f (leb 1 (pageIn v)) (and-true-left fb (leb (pageIn v) n) (and-true-left (fb && leb (pageIn v) n) a h))),
-        leb-true 48 o (and-true-left (leb 48 o) (eqb ((o - 48) % 80) 0 && ltb ((o - 48) / 80) 101) (sym entry ∙ and-true-right (fb && leb (pageIn v) n) a h)),
+      let fb : Bool = f && leb 1 p in (
+        leb-true 1 p (and-true-right f (leb 1 p) (and-true-left fb (leb p n) (and-true-left (fb && leb p n) a h))),
+        leb-true 48 o (and-true-left (leb 48 o) (eqb ((o - 48) % 80) 0 && ltb ((o - 48) / 80) 101) (sym entry ∙ and-true-right (fb && leb p n) a h)),
       )

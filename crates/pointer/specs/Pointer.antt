@@ -3,7 +3,7 @@
 use Prim.Native.Nat.{ℕ, _+_, _-_, _*_, _/_, _%_, _^_}
 use mathlib.Core.Bool.{Bool, _&&_, cond}
 use lib.Dec.{eqb, leb, ltb}
-use Rattle.kind.specs.Kind.{headerSize, undoKind}
+use Rattle.kind.specs.Kind.{pageSize, headerSize, undoKind}
 use Rattle.pointer.specs.declared.Lead.{Lead}
 use Rattle.pointer.specs.declared.Lead.the-variants.{Nowhere, Entry, Astray}
 
@@ -34,6 +34,10 @@ atEntry size count o = leb headerSize o && (eqb ((o - headerSize) % size) 0 && l
 abbrev pub entryNamed : ℕ → ℕ → ℕ → ℕ → ℕ
 entryNamed size count page offset = (page - 1) * count + (offset - headerSize) / size
 
+-- the byte of the area that page and offset name, of pages of `bytes` bytes: "Page numbers start at 1"
+abbrev pub placeNamed : ℕ → ℕ → ℕ → ℕ
+placeNamed bytes page offset = (page - 1) * bytes + offset
+
 -- where a pointer leads in an area of n pages: "0 means none"; "isn't well formed, leads outside the area or between entries"
 unfoldable pub leads : ℕ → ℕ → ℕ → ℕ → Lead
 leads size count n v =
@@ -49,3 +53,6 @@ pointerTo e = pointerFor (undoKind .size) (undoKind .count) e
 
 unfoldable pub leadOf : ℕ → ℕ → Lead
 leadOf n v = leads (undoKind .size) (undoKind .count) n v
+
+unfoldable pub placeIn : ℕ → ℕ
+placeIn v = placeNamed pageSize (pageIn v) (offsetIn v)

@@ -1,9 +1,9 @@
 // Undo pointers: 4 × 2^56 + page × 2^24 + offset × 2^8 ("01, The page").
 use kind::Kind;
 ghost use mathlib.Core.Path.{_≡_};
-ghost use Prim.Native.Nat.{_<_, _^_};
+ghost use Prim.Native.Nat.{_<_, _≤_, _^_};
 ghost use Rattle.kind.specs.Kind.{undoKind};
-ghost use Rattle.pointer.specs.Pointer.{pointerTo, leadOf, wellFormed, atEntry};
+ghost use Rattle.pointer.specs.Pointer.{pointerTo, pageIn, offsetIn, placeIn, leadOf, wellFormed, atEntry};
 
 pub struct Pointer {
     pub raw: u64,
@@ -43,8 +43,8 @@ impl Pointer {
         ensures { λ r. ⌜ r ≡ leadOf pages (self .raw) ⌝ }
     {
         let v = self.raw;
-        let page = ((v >> 24) % (1 << 32)) as usize;
-        let offset = ((v >> 8) % (1 << 16)) as usize;
+        let page = page_in(v);
+        let offset = offset_in(v);
         if v == 0 {
             Lead::Nowhere
         } else if well_formed(v) & (1 <= page) & (page <= pages) & at_entry(offset) {
@@ -54,6 +54,29 @@ impl Pointer {
             Lead::Astray
         }
     }
+
+    // The byte of the area at which the pointer leads, as its page and offset say it. Where it leads to an entry, the entry begins
+    // there, and a walk need not wait for the entry's number.
+    pub fn place(self) -> usize
+        requires { ⌜ 1 ≤ pageIn (self .raw) ⌝ }
+        ensures { λ p. ⌜ p ≡ placeIn (self .raw) ⌝ }
+    {
+        let v = self.raw;
+        (page_in(v) - 1) * Kind::PAGE + offset_in(v)
+    }
+}
+
+// The page, 32 bits, and the offset, 16 bits.
+fn page_in(v: u64) -> usize
+    ensures { λ r. ⌜ r ≡ pageIn v ⌝ }
+{
+    ((v >> 24) % (1 << 32)) as usize
+}
+
+fn offset_in(v: u64) -> usize
+    ensures { λ r. ⌜ r ≡ offsetIn v ⌝ }
+{
+    ((v >> 8) % (1 << 16)) as usize
 }
 
 // Whether the top byte is that of pointers and the low byte is zero.
@@ -71,5 +94,5 @@ fn at_entry(offset: usize) -> bool
         return false;
     }
     let o = offset - Kind::HEADER;
-    (o % Kind::UNDO.size == 0) & (o / Kind::UNDO.size < Kind::UNDO.count)
+    (o < Kind::UNDO.count * Kind::UNDO.size) & (o % Kind::UNDO.size == 0)
 }

@@ -28,16 +28,16 @@ pub entry-inside : (e : ℕ) (u : List ℕ) → e < entries u → entryPlace e +
 entry-inside e u h = omega (arith, place-in entries-lie (length u / 8192) e h)
 
 -- the fields, where they lie
-entryAt-parts : (e : ℕ) (u : List ℕ)
-    → entryAt e u ≡ record {
-      writer = little (part (entryPlace e) 8 u);
-      row = little (part (entryPlace e + 8) 4 u);
-      copy = slotOf (part (entryPlace e + 16) 64 u);
+entryOf-parts : (at : ℕ) (u : List ℕ)
+    → entryOf (part at 80 u) ≡ record {
+      writer = little (part at 8 u);
+      row = little (part (at + 8) 4 u);
+      copy = slotOf (part (at + 16) 64 u);
     }
-unfolding entryAt entryOf recordAt
-entryAt-parts e u =
-    let inner : (k w : ℕ) → k + w ≤ 80 → part k w (part (entryPlace e) 80 u) ≡ part (entryPlace e + k) w u =
-    λ k w h. part-part k w (entryPlace e) 80 u h
+unfolding entryOf
+entryOf-parts at u =
+    let inner : (k w : ℕ) → k + w ≤ 80 → part k w (part at 80 u) ≡ part (at + k) w u =
+    λ k w h. part-part k w at 80 u h
     in
     rw (inner 0 8 (omega arith), add-zero, inner 8 4 (omega arith), inner 16 64 (omega arith))
 
@@ -67,13 +67,16 @@ putEntry-stores e m body u =
 
 -- ---- what the functions compute: `at` is the place that they found
 
-pub entryAt-read : {at w r : ℕ} {m : Slot} (e : ℕ) (u : List ℕ)
-    → at ≡ entryPlace e
+pub entryOf-read : {w r : ℕ} {m : Slot} (at : ℕ) (u : List ℕ)
     → w ≡ little (part at 8 u)
     → r ≡ little (part (at + 8) 4 u)
     → m ≡ slotOf (part (at + 16) 64 u)
-    → _≡_ {A = Entry} (record { writer = w; row = r; copy = m }) (entryAt e u)
-entryAt-read e u p ew er em = rw (entryAt-parts e u) (cc)
+    → _≡_ {A = Entry} (record { writer = w; row = r; copy = m }) (entryOf (part at 80 u))
+entryOf-read at u ew er em = rw (entryOf-parts at u) (cc)
+
+pub entryAt-read : {at : ℕ} {m : Entry} (e : ℕ) (u : List ℕ) → at ≡ entryPlace e → m ≡ entryOf (part at 80 u) → m ≡ entryAt e u
+unfolding entryAt recordAt
+entryAt-read e u p h = h ∙ ap (λ (n : ℕ). entryOf (part n 80 u)) p
 
 pub putEntry-stored : {at : ℕ} {y₁ y₂ y₃ y₄ y₅ : List ℕ} (e : ℕ) (m : Entry) (body u : List ℕ)
     → at ≡ entryPlace e

@@ -2,10 +2,11 @@
 use crate::slot::Slot;
 use kind::Kind;
 ghost use mathlib.Core.Path.{_≡_};
-ghost use Prim.Native.Nat.{_+_, _<_, _^_};
+ghost use Prim.Native.Nat.{_+_, _<_, _≤_, _^_};
 ghost use lib.ListN.{length};
+ghost use Rattle.little.specs.Little.{part};
 ghost use Rattle.kind.specs.Kind.{entries};
-ghost use Rattle.records.specs.Entry.{entryPlace, entryAt, putEntry, putCopy, clearEntry};
+ghost use Rattle.records.specs.Entry.{entryOf, entryPlace, putEntry, putCopy, clearEntry};
 
 pub struct Entry {
     pub writer: u64,
@@ -21,12 +22,11 @@ pub fn place(e: usize) -> usize
     e / Kind::UNDO.count * Kind::PAGE + (Kind::HEADER + e % Kind::UNDO.count * Kind::UNDO.size)
 }
 
-// Entry e.
-pub fn read_entry(u: &[u8], e: usize) -> Entry
-    requires { ⌜ e < entries (now u) ⌝ }
-    ensures { λ m. ⌜ m ≡ entryAt e (now (u .entry)) ⌝ }
+// The entry that stands in the 80 bytes from index at on. A walk has the index from a pointer, which says it without a division.
+pub fn get_entry(u: &[u8], at: usize) -> Entry
+    requires { ⌜ at + 80 ≤ length (now u) ⌝ }
+    ensures { λ m. ⌜ m ≡ entryOf (part at 80 (now (u .entry))) ⌝ }
 {
-    let at = place(e);
     Entry {
         writer: little::get8(u, at),
         row: little::get4(u, at + 8),

@@ -1,5 +1,5 @@
 -- The rules of insert, update, delete and read, case by case. Assumes nothing.
-use mathlib.Core.Path.{_≡_, refl, sym, ap, _∙_}
+use mathlib.Core.Path.{_≡_, refl, sym, ap, ap₂, _∙_}
 use mathlib.Core.Bool.{Bool, _||_, or-true, or-false}
 use mathlib.Core.List.{List, [], _∷_}
 use Prim.Native.Nat.{ℕ, zero, suc, _*_, _<_, _≤_, _^_}
@@ -12,27 +12,63 @@ use Rattle.ground.specs.Refuse.{firstOf, settle}
 use Rattle.answer.specs.declared.Answer.{Answer}
 use Rattle.answer.specs.Code.{codeOf}
 use Rattle.desk.specs.declared.Desk.{Desk}
-use Rattle.desk.specs.declared.View.{View}
+use Rattle.desk.specs.View.{View}
 use Rattle.desk.specs.Turns.{viewAt}
+use Rattle.columns.specs.Columns.{usedOf}
+use Rattle.sessions.proofs.Lists.{list-unused}
+use Rattle.sight.specs.Sight.{viewOf}
+use Rattle.sight.proofs.Fronts.{FrontOf, used-front}
 use Rattle.kind.specs.Kind.{rows, entries}
 use Rattle.kind.specs.Areas.{Areas, areas}
 use Rattle.chain.specs.declared.Place.{Place}
 use Rattle.chain.specs.declared.Place.the-variants.{Nowhere}
 use Rattle.chain.specs.Walk.{walkRule}
 use Rattle.admit.specs.declared.Admitted.the-variants.{Refused}
-use Rattle.admit.proofs.Admissions.{Admits, admission, refuses, goes-on, admits-at}
+use Rattle.admit.proofs.Admissions.{Admits, admission, refuses, goes-on, admits-at, admits-place, admits-number, admits-sound}
 use Rattle.vacant.specs.Vacant.{lowestEmpty, lowestFree}
 use Rattle.vacant.proofs.Vacants.{lowestEmpty-lt, lowestFree-lt}
 use Rattle.seeking.specs.declared.Sought.{Sought}
 use Rattle.seeking.specs.declared.Sought.the-variants.{Found, Refused as Unfound}
 use Rattle.seeking.specs.Seeking.{noRow, breaks, misses, says, seekRule, writeRefusal}
-use Rattle.seeking.proofs.Seekings.{reading, writing, seek-refused, seek-passed, seek-walk, write-refused, write-passed}
+use Rattle.seeking.proofs.Seekings.{reading, writing, seek-refused, seek-passed, seek-walk, write-refused, write-passed, front-seek, front-write}
 use Rattle.writing.specs.Writing.{inserted, updatedData, updatedUndo, deleted}
 use Rattle.rows.specs.Rows.{viewIn, badBody, insertRefusal, insertRule, updateRefusal, updated, updateRule, deleteRefusal, deleteRule, seenBy, readRefusal, readRule}
 
--- what the session at place k sees by, of the session admitted at k
-pub view-in : (d u s : List ℕ) (desk : Desk) (x k : ℕ) → Admits d u s desk x k → viewAt k desk ≡ viewIn desk x
-view-in d u s desk x k a = ap (λ (i : ℕ). viewAt i desk) (admits-at d u s desk x k a)
+-- ---- what the session admitted at place k sees by, as the words lend it: t is its statement, l are the used places of its list
+
+module _ (d u s : List ℕ) (desk : Desk) (x k : ℕ) (a : Admits d u s desk x k) where
+  -- with its whole list that is its view
+  view-in : viewOf x (getD (desk .statements) k 0) (viewAt k desk .list) ≡ viewIn desk x
+  unfolding viewAt
+  view-in =
+      ap (λ (n : ℕ). viewOf n (getD (desk .statements) k 0) (viewAt k desk .list)) (sym (admits-number d u s desk x k a))
+      ∙ ap (λ (i : ℕ). viewAt i desk) (admits-at d u s desk x k a)
+
+  -- behind the used places of a sound desk's list there are none
+  front-in : FrontOf (usedOf (viewAt k desk .list)) (viewAt k desk .list)
+  front-in = used-front (viewAt k desk .list) (list-unused desk (admits-sound d u s desk x k a) k (admits-place d u s desk x k a))
+
+  module _ {t : ℕ} (at : t ≡ getD (desk .statements) k 0) where
+    statement-in : viewIn desk x .statement ≡ t
+    statement-in = ap (λ (v : View). v .statement) (sym view-in) ∙ sym at
+
+    module _ {l : List ℕ} (lent : l ≡ usedOf (viewAt k desk .list)) (r : ℕ) where
+      -- what was sought, and what was asked of a row, with the used places alone
+      sought-in : (q : Sought) → q ≡ seekRule d u s (viewOf x t l) r → seekRule d u s (viewIn desk x) r ≡ q
+      sought-in q e =
+          sym
+          (e
+          ∙ ap₂ (λ (n : ℕ) (m : List ℕ). seekRule d u s (viewOf x n m) r) at lent
+          ∙ front-seek (usedOf (viewAt k desk .list)) (viewAt k desk .list) front-in x (getD (desk .statements) k 0) d u s r
+          ∙ ap (λ (v : View). seekRule d u s v r) view-in)
+
+      asked-in : {m : ℕ} → m ≡ writeRefusal d u s (viewOf x t l) r → writeRefusal d u s (viewIn desk x) r ≡ m
+      asked-in e =
+          sym
+          (e
+          ∙ ap₂ (λ (n : ℕ) (m : List ℕ). writeRefusal d u s (viewOf x n m) r) at lent
+          ∙ front-write (usedOf (viewAt k desk .list)) (viewAt k desk .list) front-in x (getD (desk .statements) k 0) d u s r
+          ∙ ap (λ (v : View). writeRefusal d u s v r) view-in)
 
 -- ---- insert
 
@@ -46,20 +82,20 @@ module _ (d u s : List ℕ) (desk : Desk) (x : ℕ) (body : List ℕ) where
   abbrev insertRest : List (Bool × ℕ)
   insertRest = (badBody body, 5) ∷ (eqb (lowestEmpty d) (rows d), 11) ∷ []
 
-  abbrev insertDone : View → (ℕ × ℕ) × List ℕ
-  insertDone v = ((0, lowestEmpty d), inserted x (v .statement) (lowestEmpty d) body d)
+  abbrev insertDone : ℕ → (ℕ × ℕ) × List ℕ
+  insertDone t = ((0, lowestEmpty d), inserted x t (lowestEmpty d) body d)
 
   abbrev insertNo : ℕ → (ℕ × ℕ) × List ℕ
   insertNo n = ((n, 0), d)
 
   pub insert-refused : (n : Answer) → admission d u s desk x ≡ Refused n → insertRule (areas d u s) desk x body ≡ insertNo (codeOf n)
   unfolding insertRule insertRefusal
-  insert-refused n e = refuses d u s desk x n insertRest (insertDone (viewIn desk x)) insertNo e
+  insert-refused n e = refuses d u s desk x n insertRest (insertDone (viewIn desk x .statement)) insertNo e
 
   module _ (k : ℕ) (a : Admits d u s desk x k) where
-    insert-on : insertRule (areas d u s) desk x body ≡ settle (firstOf insertRest) (insertDone (viewIn desk x)) insertNo
+    insert-on : insertRule (areas d u s) desk x body ≡ settle (firstOf insertRest) (insertDone (viewIn desk x .statement)) insertNo
     unfolding insertRule insertRefusal
-    insert-on = goes-on d u s desk x k a insertRest (insertDone (viewIn desk x)) insertNo
+    insert-on = goes-on d u s desk x k a insertRest (insertDone (viewIn desk x .statement)) insertNo
 
     pub insert-5 : (length body ≡ 32 → ⊥) → insertRule (areas d u s) desk x body ≡ insertNo 5
     insert-5 h = insert-on ∙ rw (ne-eqb (length body) 32 h)
@@ -68,14 +104,13 @@ module _ (d u s : List ℕ) (desk : Desk) (x : ℕ) (body : List ℕ) where
       pub insert-11 : {r : ℕ} → r ≡ lowestEmpty d → r ≡ rows d → insertRule (areas d u s) desk x body ≡ insertNo 11
       insert-11 is h = insert-on ∙ rw (eq-eqb (length body) 32 long, eq-eqb (lowestEmpty d) (rows d) (sym is ∙ h))
 
-      pub insert-0 : {r : ℕ} {y : List ℕ} → r ≡ lowestEmpty d → (r ≡ rows d → ⊥) → y ≡ inserted x (getD (desk .statements) k 0) r body d
+      pub insert-0 : {r t : ℕ} {y : List ℕ} → r ≡ lowestEmpty d → (r ≡ rows d → ⊥) → t ≡ getD (desk .statements) k 0 → y ≡ inserted x t r body d
           → insertRule (areas d u s) desk x body ≡ ((0, r), y)
-      unfolding viewAt
-      insert-0 {r} {y} is h put =
+      insert-0 {r} {t} {y} is h at put =
           insert-on
           ∙ rw (eq-eqb (length body) 32 long, ne-eqb (lowestEmpty d) (rows d) (λ (e : lowestEmpty d ≡ rows d). h (is ∙ e)))
-          (ap insertDone (sym (view-in d u s desk x k a))
-          ∙ ap (λ (i : ℕ). ((0, i), inserted x (viewAt k desk .statement) i body d)) (sym is)
+          (ap insertDone (statement-in d u s desk x k a at)
+          ∙ ap (λ (i : ℕ). ((0, i), inserted x t i body d)) (sym is)
           ∙ ap (λ (l : List ℕ). ((0, r), l)) (sym put))
 
 -- ---- a write to a row: m is what was asked of it and answered
@@ -88,15 +123,9 @@ module _ (d u s : List ℕ) (v : View) (r : ℕ) {A : Type 0} (rest : List (Bool
   write-on : writeRefusal d u s v r ≡ 0 → settle (firstOf (writing d u s v r rest)) done refused ≡ settle (firstOf rest) done refused
   write-on e = ap (λ (m : ℕ). settle m done refused) (write-passed d u s v r e .passed rest)
 
-module _ (d u s : List ℕ) (desk : Desk) (x k : ℕ) (a : Admits d u s desk x k) (r : ℕ) {v : View} {m : ℕ} (seen : v ≡ viewAt k desk) (asked : m ≡ writeRefusal d u s v r) where
-  seen-in : v ≡ viewIn desk x
-  seen-in = seen ∙ view-in d u s desk x k a
-
-  asked-in : writeRefusal d u s (viewIn desk x) r ≡ m
-  asked-in = ap (λ (w : View). writeRefusal d u s w r) (sym seen-in) ∙ sym asked
-
-  pub write-inside : m ≡ 0 → r < rows d
-  write-inside h = write-passed d u s v r (sym asked ∙ h) .inside
+-- nothing was refused: the row lies in the area
+pub write-inside : (d u s : List ℕ) (v : View) (r : ℕ) {m : ℕ} → m ≡ writeRefusal d u s v r → m ≡ 0 → r < rows d
+write-inside d u s v r asked h = write-passed d u s v r (sym asked ∙ h) .inside
 
 -- ---- delete
 
@@ -104,30 +133,32 @@ module _ (d u s : List ℕ) (desk : Desk) (x r : ℕ) where
   abbrev deleteRest : List (Bool × ℕ)
   deleteRest = writing d u s (viewIn desk x) r []
 
-  abbrev deleteDone : View → ℕ × List ℕ
-  deleteDone v = (0, deleted x (v .statement) r d)
+  abbrev deleteDone : ℕ → ℕ × List ℕ
+  deleteDone t = (0, deleted x t r d)
 
   abbrev deleteNo : ℕ → ℕ × List ℕ
   deleteNo n = (n, d)
 
   pub delete-refused : (n : Answer) → admission d u s desk x ≡ Refused n → deleteRule (areas d u s) desk x r ≡ deleteNo (codeOf n)
   unfolding deleteRule deleteRefusal
-  delete-refused n e = refuses d u s desk x n deleteRest (deleteDone (viewIn desk x)) deleteNo e
+  delete-refused n e = refuses d u s desk x n deleteRest (deleteDone (viewIn desk x .statement)) deleteNo e
 
   module _ (k : ℕ) (a : Admits d u s desk x k) where
-    delete-on : deleteRule (areas d u s) desk x r ≡ settle (firstOf deleteRest) (deleteDone (viewIn desk x)) deleteNo
+    delete-on : deleteRule (areas d u s) desk x r ≡ settle (firstOf deleteRest) (deleteDone (viewIn desk x .statement)) deleteNo
     unfolding deleteRule deleteRefusal
-    delete-on = goes-on d u s desk x k a deleteRest (deleteDone (viewIn desk x)) deleteNo
+    delete-on = goes-on d u s desk x k a deleteRest (deleteDone (viewIn desk x .statement)) deleteNo
 
-    module _ {v : View} {m : ℕ} (seen : v ≡ viewAt k desk) (asked : m ≡ writeRefusal d u s v r) where
+    module _ {t : ℕ} {l : List ℕ} {m : ℕ} (at : t ≡ getD (desk .statements) k 0) (lent : l ≡ usedOf (viewAt k desk .list)) (asked : m ≡ writeRefusal d u s (viewOf x t l) r) where
       pub delete-no : (m ≡ 0 → ⊥) → deleteRule (areas d u s) desk x r ≡ deleteNo m
-      delete-no h = delete-on ∙ write-no d u s (viewIn desk x) r [] (deleteDone (viewIn desk x)) deleteNo m (asked-in d u s desk x k a r seen asked) h
+      delete-no h =
+          delete-on
+          ∙ write-no d u s (viewIn desk x) r [] (deleteDone (viewIn desk x .statement)) deleteNo m (asked-in d u s desk x k a at lent r asked) h
 
-      pub delete-0 : m ≡ 0 → deleteRule (areas d u s) desk x r ≡ deleteDone v
+      pub delete-0 : m ≡ 0 → deleteRule (areas d u s) desk x r ≡ deleteDone t
       delete-0 h =
           delete-on
-          ∙ write-on d u s (viewIn desk x) r [] (deleteDone (viewIn desk x)) deleteNo (asked-in d u s desk x k a r seen asked ∙ h)
-          ∙ ap deleteDone (sym (seen-in d u s desk x k a r seen asked))
+          ∙ write-on d u s (viewIn desk x) r [] (deleteDone (viewIn desk x .statement)) deleteNo (asked-in d u s desk x k a at lent r asked ∙ h)
+          ∙ ap deleteDone (statement-in d u s desk x k a at)
 
 -- ---- update
 
@@ -156,52 +187,52 @@ module _ (d u s : List ℕ) (desk : Desk) (x r : ℕ) (body : List ℕ) where
       ∷ (says d s (viewIn desk x) r 10, 10)
       ∷ room
 
-  abbrev updateDone : View → ℕ → ℕ × Areas
-  updateDone v e = (0, areas (updatedData x (v .statement) r e body d) (updatedUndo x (v .statement) r e d u) s)
+  abbrev updateDone : ℕ → ℕ → ℕ × Areas
+  updateDone t e = (0, areas (updatedData x t r e body d) (updatedUndo x t r e d u) s)
 
   abbrev updateNo : ℕ → ℕ × Areas
   updateNo n = (n, areas d u s)
 
   abbrev updateEnd : Bool → ℕ × Areas
-  updateEnd b = settle (firstOf (updateRest b)) (updateDone (viewIn desk x) (lowestFree u)) updateNo
+  updateEnd b = settle (firstOf (updateRest b)) (updateDone (viewIn desk x .statement) (lowestFree u)) updateNo
 
   pub update-refused : (n : Answer) → admission d u s desk x ≡ Refused n → updateRule (areas d u s) desk x r body ≡ updateNo (codeOf n)
   unfolding updateRule updateRefusal updated
   update-refused n e =
-      refuses d u s desk x n (updateRest (noRow d r || badBody body)) (updateDone (viewIn desk x) (lowestFree u)) updateNo e
+      refuses d u s desk x n (updateRest (noRow d r || badBody body)) (updateDone (viewIn desk x .statement) (lowestFree u)) updateNo e
 
   module _ (k : ℕ) (a : Admits d u s desk x k) where
     update-on : updateRule (areas d u s) desk x r body ≡ updateEnd (noRow d r || badBody body)
     unfolding updateRule updateRefusal updated
     update-on =
-        goes-on d u s desk x k a (updateRest (noRow d r || badBody body)) (updateDone (viewIn desk x) (lowestFree u)) updateNo
+        goes-on d u s desk x k a (updateRest (noRow d r || badBody body)) (updateDone (viewIn desk x .statement) (lowestFree u)) updateNo
 
     pub update-5 : (length body ≡ 32 → ⊥) → updateRule (areas d u s) desk x r body ≡ updateNo 5
     update-5 h = update-on ∙ rw (ne-eqb (length body) 32 h, or-true (noRow d r))
 
-    module _ (long : length body ≡ 32) {v : View} {m : ℕ} (seen : v ≡ viewAt k desk) (asked : m ≡ writeRefusal d u s v r) where
+    module _ (long : length body ≡ 32) {t : ℕ} {l : List ℕ} {m : ℕ} (at : t ≡ getD (desk .statements) k 0) (lent : l ≡ usedOf (viewAt k desk .list)) (asked : m ≡ writeRefusal d u s (viewOf x t l) r) where
       update-asked : updateRule (areas d u s) desk x r body ≡ updateEnd (noRow d r)
       update-asked = update-on ∙ rw (eq-eqb (length body) 32 long, or-false (noRow d r))
 
       pub update-no : (m ≡ 0 → ⊥) → updateRule (areas d u s) desk x r body ≡ updateNo m
       update-no h =
           update-asked
-          ∙ write-no d u s (viewIn desk x) r room (updateDone (viewIn desk x) (lowestFree u)) updateNo m (asked-in d u s desk x k a r seen asked) h
+          ∙ write-no d u s (viewIn desk x) r room (updateDone (viewIn desk x .statement) (lowestFree u)) updateNo m (asked-in d u s desk x k a at lent r asked) h
 
       module _ (h : m ≡ 0) {e : ℕ} (is : e ≡ lowestFree u) where
-        update-room : updateRule (areas d u s) desk x r body ≡ settle (firstOf room) (updateDone (viewIn desk x) (lowestFree u)) updateNo
+        update-room : updateRule (areas d u s) desk x r body ≡ settle (firstOf room) (updateDone (viewIn desk x .statement) (lowestFree u)) updateNo
         update-room =
             update-asked
-            ∙ write-on d u s (viewIn desk x) r room (updateDone (viewIn desk x) (lowestFree u)) updateNo (asked-in d u s desk x k a r seen asked ∙ h)
+            ∙ write-on d u s (viewIn desk x) r room (updateDone (viewIn desk x .statement) (lowestFree u)) updateNo (asked-in d u s desk x k a at lent r asked ∙ h)
 
         pub update-11 : e ≡ entries u → updateRule (areas d u s) desk x r body ≡ updateNo 11
         update-11 full = update-room ∙ rw (eq-eqb (lowestFree u) (entries u) (sym is ∙ full))
 
-        pub update-0 : (e ≡ entries u → ⊥) → updateRule (areas d u s) desk x r body ≡ updateDone v e
+        pub update-0 : (e ≡ entries u → ⊥) → updateRule (areas d u s) desk x r body ≡ updateDone t e
         update-0 some =
             update-room
             ∙ rw (ne-eqb (lowestFree u) (entries u) (λ (q : lowestFree u ≡ entries u). some (is ∙ q)))
-            (ap (λ (i : ℕ). updateDone (viewIn desk x) i) (sym is) ∙ ap (λ (w : View). updateDone w e) (sym (seen-in d u s desk x k a r seen asked)))
+            (ap (λ (i : ℕ). updateDone (viewIn desk x .statement) i) (sym is) ∙ ap (λ (n : ℕ). updateDone n e) (statement-in d u s desk x k a at))
 
 -- ---- read
 
@@ -219,21 +250,17 @@ module _ (d u s : List ℕ) (desk : Desk) (x r : ℕ) where
   unfolding readRule readRefusal
   read-refused n e = refuses d u s desk x n readRest readDone readNo e
 
-  module _ (k : ℕ) (a : Admits d u s desk x k) {v : View} (seen : v ≡ viewAt k desk) where
+  module _ (k : ℕ) (a : Admits d u s desk x k) {t : ℕ} {l : List ℕ} (at : t ≡ getD (desk .statements) k 0) (lent : l ≡ usedOf (viewAt k desk .list)) where
     read-on : readRule (areas d u s) desk x r ≡ settle (firstOf readRest) readDone readNo
     unfolding readRule readRefusal
     read-on = goes-on d u s desk x k a readRest readDone readNo
 
-    -- what the seek answered
-    sought-in : (q : Sought) → q ≡ seekRule d u s v r → seekRule d u s (viewIn desk x) r ≡ q
-    sought-in q e = ap (λ (w : View). seekRule d u s w r) (sym (seen ∙ view-in d u s desk x k a)) ∙ sym e
+    pub read-no : (n : Answer) → Unfound n ≡ seekRule d u s (viewOf x t l) r → readRule (areas d u s) desk x r ≡ readNo (codeOf n)
+    read-no n e = read-on ∙ seek-refused d u s (viewIn desk x) r n [] readDone readNo (sought-in d u s desk x k a at lent r (Unfound n) e)
 
-    pub read-no : (n : Answer) → Unfound n ≡ seekRule d u s v r → readRule (areas d u s) desk x r ≡ readNo (codeOf n)
-    read-no n e = read-on ∙ seek-refused d u s (viewIn desk x) r n [] readDone readNo (sought-in (Unfound n) e)
-
-    pub read-0 : (place : Place) (n : ℕ) → Found place n ≡ seekRule d u s v r → readRule (areas d u s) desk x r ≡ (0, place, n)
+    pub read-0 : (place : Place) (n : ℕ) → Found place n ≡ seekRule d u s (viewOf x t l) r → readRule (areas d u s) desk x r ≡ (0, place, n)
     read-0 place n e =
-        let found : seekRule d u s (viewIn desk x) r ≡ Found place n = sought-in (Found place n) e in
+        let found : seekRule d u s (viewIn desk x) r ≡ Found place n = sought-in d u s desk x k a at lent r (Found place n) e in
         read-on
         ∙ ap (λ (m : ℕ). settle m readDone readNo) (seek-passed d u s (viewIn desk x) r place n found [])
         ∙ ap seenBy (seek-walk d u s (viewIn desk x) r place n found)

@@ -8,7 +8,7 @@ use lib.Dec.{eqb}
 use Rattle.ground.specs.Refuse.{firstOf, settle}
 use Rattle.answer.specs.Code.{codeOf}
 use Rattle.desk.specs.declared.Desk.{Desk}
-use Rattle.desk.specs.declared.View.{View}
+use Rattle.desk.specs.View.{View}
 use Rattle.desk.specs.Sound.{sound}
 use Rattle.places.specs.Open.{placeIn, isOpen}
 use Rattle.desk.specs.Turns.{viewAt}

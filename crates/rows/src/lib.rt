@@ -1,15 +1,16 @@
 // Insert, update, delete and read ("01, Writes, withdrawal, sweep", "01, When the desk says no"). Areas that a call never writes are
-// lent as they are. None of the four changes the desk, so none hands one back.
+// lent as they are. None of the four changes the desk: it is lent as its words.
 use admit::Admitted;
 use answer::Answer;
 use chain::Place;
-use desk::Desk;
 use kind::Kind;
 use seeking::Sought;
+use words::Words;
 ghost use mathlib.Core.Path.{_≡_};
 ghost use Rattle.ground.specs.Does.{Does};
 ghost use Rattle.answer.specs.Code.{codeOf};
 ghost use Rattle.kind.specs.Areas.{areas};
+ghost use Rattle.words.specs.Words.{deskIn};
 ghost use Rattle.chain.specs.declared.Place.the-variants.{Nowhere};
 ghost use Rattle.rows.specs.Rows.{saidInserted, saidSeen, insertRule, updateRule, deleteRule, readRule};
 
@@ -34,22 +35,13 @@ pub fn insert(
     data: &mut [u8],
     undo: &[u8],
     status: &[u8],
-    desk: Desk,
+    desk: &Words,
     session: u64,
     body: &[u8],
 ) -> Inserted
-    ensures { λ r. ⌜ Does (insertRule (areas (now («data» .entry)) (now (undo .entry)) (now (status .entry))) desk session (now (body .entry))) (saidInserted r) (now («data» .exit)) ⌝ }
+    ensures { λ r. ⌜ Does (insertRule (areas (now («data» .entry)) (now (undo .entry)) (now (status .entry))) (deskIn (now (desk .entry))) session (now (body .entry))) (saidInserted r) (now («data» .exit)) ⌝ }
 {
-    let k = match admit::admit(
-        data.len(),
-        undo.len(),
-        status.len(),
-        desk.next,
-        &desk.numbers,
-        &desk.statements,
-        &desk.lists,
-        session,
-    ) {
+    let k = match admit::admit(data.len(), undo.len(), status.len(), desk, session) {
         Admitted::Refused(answer) => return unmade(answer),
         Admitted::At(k) => k,
     };
@@ -60,7 +52,7 @@ pub fn insert(
     if row == data.len() / Kind::PAGE * Kind::DATA.count {
         return unmade(Answer::NoRoom);
     }
-    writing::insert_at(data, row, session, desk.statements[k], body);
+    writing::insert_at(data, row, session, words::statement(desk, k), body);
     Inserted {
         answer: Answer::Done,
         row,
@@ -75,35 +67,27 @@ fn unmade(answer: Answer) -> Inserted
 }
 
 // Replaces the row's version by a new one, and keeps the old one in the lowest free entry.
-pub fn update(
+pub fn update<'a>(
     data: &mut [u8],
     undo: &mut [u8],
-    status: &[u8],
-    desk: Desk,
+    status: &'a [u8],
+    desk: &'a Words,
     session: u64,
     row: usize,
     body: &[u8],
 ) -> Answer
-    ensures { λ r. ⌜ Does (updateRule (areas (now («data» .entry)) (now (undo .entry)) (now (status .entry))) desk session row (now (body .entry))) (codeOf r) (areas (now («data» .exit)) (now (undo .exit)) (now (status .exit))) ⌝ }
+    ensures { λ r. ⌜ Does (updateRule (areas (now («data» .entry)) (now (undo .entry)) (now (status .entry))) (deskIn (now (desk .entry))) session row (now (body .entry))) (codeOf r) (areas (now («data» .exit)) (now (undo .exit)) (now (status .exit))) ⌝ }
 {
-    let k = match admit::admit(
-        data.len(),
-        undo.len(),
-        status.len(),
-        desk.next,
-        &desk.numbers,
-        &desk.statements,
-        &desk.lists,
-        session,
-    ) {
+    let k = match admit::admit(data.len(), undo.len(), status.len(), desk, session) {
         Admitted::Refused(answer) => return answer,
         Admitted::At(k) => k,
     };
     if body.len() != BODY {
         return Answer::BadArgument;
     }
-    let v = desk.view(k);
-    let refusal = seeking::may_write(data, undo, status, v.number, v.statement, &v.list, row);
+    let statement = words::statement(desk, k);
+    let list = words::list(desk, k);
+    let refusal = seeking::may_write(data, undo, status, session, statement, list, row);
     if answer::code(refusal) != 0 {
         return refusal;
     }
@@ -111,7 +95,7 @@ pub fn update(
     if e == undo.len() / Kind::PAGE * Kind::UNDO.count {
         return Answer::NoRoom;
     }
-    writing::update_at(data, undo, row, e, session, v.statement, body);
+    writing::update_at(data, undo, row, e, session, statement, body);
     Answer::Done
 }
 
@@ -120,31 +104,23 @@ pub fn delete<'a>(
     data: &mut [u8],
     undo: &'a [u8],
     status: &'a [u8],
-    desk: Desk,
+    desk: &'a Words,
     session: u64,
     row: usize,
 ) -> Answer
-    ensures { λ r. ⌜ Does (deleteRule (areas (now («data» .entry)) (now (undo .entry)) (now (status .entry))) desk session row) (codeOf r) (now («data» .exit)) ⌝ }
+    ensures { λ r. ⌜ Does (deleteRule (areas (now («data» .entry)) (now (undo .entry)) (now (status .entry))) (deskIn (now (desk .entry))) session row) (codeOf r) (now («data» .exit)) ⌝ }
 {
-    let k = match admit::admit(
-        data.len(),
-        undo.len(),
-        status.len(),
-        desk.next,
-        &desk.numbers,
-        &desk.statements,
-        &desk.lists,
-        session,
-    ) {
+    let k = match admit::admit(data.len(), undo.len(), status.len(), desk, session) {
         Admitted::Refused(answer) => return answer,
         Admitted::At(k) => k,
     };
-    let v = desk.view(k);
-    let refusal = seeking::may_write(data, undo, status, v.number, v.statement, &v.list, row);
+    let statement = words::statement(desk, k);
+    let list = words::list(desk, k);
+    let refusal = seeking::may_write(data, undo, status, session, statement, list, row);
     if answer::code(refusal) != 0 {
         return refusal;
     }
-    writing::delete_at(data, row, session, v.statement);
+    writing::delete_at(data, row, session, statement);
     Answer::Done
 }
 
@@ -153,27 +129,19 @@ pub fn read<'a>(
     data: &'a [u8],
     undo: &'a [u8],
     status: &'a [u8],
-    desk: Desk,
+    desk: &'a Words,
     session: u64,
     row: usize,
 ) -> Seen
-    ensures { λ r. ⌜ saidSeen r ≡ readRule (areas (now («data» .entry)) (now (undo .entry)) (now (status .entry))) desk session row ⌝ }
+    ensures { λ r. ⌜ saidSeen r ≡ readRule (areas (now («data» .entry)) (now (undo .entry)) (now (status .entry))) (deskIn (now (desk .entry))) session row ⌝ }
 {
-    let k = match admit::admit(
-        data.len(),
-        undo.len(),
-        status.len(),
-        desk.next,
-        &desk.numbers,
-        &desk.statements,
-        &desk.lists,
-        session,
-    ) {
+    let k = match admit::admit(data.len(), undo.len(), status.len(), desk, session) {
         Admitted::Refused(answer) => return unseen(answer),
         Admitted::At(k) => k,
     };
-    let v = desk.view(k);
-    let sought = seeking::seek(data, undo, status, v.number, v.statement, &v.list, row);
+    let statement = words::statement(desk, k);
+    let list = words::list(desk, k);
+    let sought = seeking::seek(data, undo, status, session, statement, list, row);
     match sought {
         Sought::Refused(answer) => unseen(answer),
         Sought::Found(at, looked) => Seen {

@@ -1,6 +1,6 @@
 -- What seeking a row says to a call: where it refuses, the call's list of refusals answers that number whatever stands behind it; where
 -- it doesn't, the list goes on behind what was asked, and the row has a version that the session reads. Assumes nothing.
-use mathlib.Core.Path.{_≡_, refl, sym, ap, _∙_}
+use mathlib.Core.Path.{_≡_, refl, sym, ap, ap₂, _∙_}
 use mathlib.Core.Logic.{_⊎_, ⊎-elim}
 use mathlib.Core.Bool.{Bool, true, false, cond}
 use mathlib.Core.List.{List, [], _∷_}
@@ -14,17 +14,19 @@ use Rattle.answer.specs.declared.Answer.{Answer}
 use Rattle.answer.specs.declared.Answer.the-variants.{BadArgument, Broken, NotThere}
 use Rattle.answer.specs.Code.{codeOf}
 use Rattle.kind.specs.Kind.{rows}
-use Rattle.desk.specs.declared.View.{View}
+use Rattle.desk.specs.View.{View}
 use Rattle.sight.specs.declared.Stamp.{Stamp}
+use Rattle.sight.specs.Sight.{viewOf}
 use Rattle.sight.specs.Conflict.{conflictOf}
-use Rattle.conflict.proofs.Conflicts.{Said, conflict-said}
+use Rattle.sight.proofs.Fronts.{FrontOf}
+use Rattle.conflict.proofs.Conflicts.{Said, conflict-said, front-conflict}
 use Rattle.records.specs.declared.slot.Slot.{Slot}
 use Rattle.records.specs.Slot.{slotAt}
 use Rattle.chain.specs.declared.Place.{Place}
 use Rattle.chain.specs.declared.Walk.{Walk}
 use Rattle.chain.specs.declared.Walk.the-variants.{Found as At, Absent, Broken as Break}
 use Rattle.chain.specs.Walk.{stampOf, walkRule}
-use Rattle.chain.proofs.Walks.{walk-empty}
+use Rattle.chain.proofs.Walks.{walk-empty, front-walk}
 use Rattle.seeking.specs.declared.Sought.{Sought}
 use Rattle.seeking.specs.declared.Sought.the-variants.{Found, Refused}
 use Rattle.seeking.specs.Seeking.{noRow, isBroken, breaks, isAbsent, misses, says, soughtBy, refusalIn, seekRule, writeRefusal}
@@ -226,3 +228,27 @@ module _ (d u s : List ℕ) (v : View) (r : ℕ) where
       ∙ ap (conflictOf v s) (et ∙ ap stampOf em)
       ∙ sym (saying x (conflict-said v s (stampOf (slotAt r d))))
       ∙ sym (seek-passed place n (sym told ∙ e) ((says d s v r 8, 8) ∷ (says d s v r 9, 9) ∷ (says d s v r 10, 10) ∷ []))
+
+-- ---- two views that differ in unused places alone
+
+module _ (m l : List ℕ) (front : FrontOf m l) (number statement : ℕ) (d u s : List ℕ) (r : ℕ) where
+  pub front-seek : seekRule d u s (viewOf number statement m) r ≡ seekRule d u s (viewOf number statement l) r
+  unfolding seekRule
+  front-seek =
+      ap (λ (w : Walk). cond (noRow d r) (Refused BadArgument) (soughtBy w)) (front-walk m l front number statement d u s r)
+
+  pub front-write : writeRefusal d u s (viewOf number statement m) r ≡ writeRefusal d u s (viewOf number statement l) r
+  unfolding writeRefusal breaks misses says
+  front-write =
+      ap₂
+      (λ (w : Walk) (x : ℕ).
+      firstOf
+      ((noRow d r, 5)
+      ∷ (isBroken w, 6)
+      ∷ (isAbsent w, 7)
+      ∷ (eqb x 8, 8)
+      ∷ (eqb x 9, 9)
+      ∷ (eqb x 10, 10)
+      ∷ []))
+      (front-walk m l front number statement d u s r)
+      (front-conflict m l front number statement s (stampOf (slotAt r d)))

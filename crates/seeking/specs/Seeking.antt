@@ -8,7 +8,7 @@ use Rattle.ground.specs.Refuse.{firstOf}
 use Rattle.answer.specs.declared.Answer.{Answer}
 use Rattle.answer.specs.declared.Answer.the-variants.{Done, BadArgument, Broken, NotThere}
 use Rattle.kind.specs.Kind.{rows}
-use Rattle.desk.specs.declared.View.{View}
+use Rattle.desk.specs.View.{View}
 use Rattle.sight.specs.Conflict.{conflictOf}
 use Rattle.records.specs.Slot.{slotAt}
 use Rattle.chain.specs.declared.Walk.{Walk}

@@ -35,7 +35,7 @@ pub fn seek<'a>(
     status: &'a [u8],
     number: u64,
     statement: u32,
-    list: &'a [u64; 15],
+    list: &'a [u32],
     row: usize,
 ) -> Sought
     requires { ⌜ length (now status) ≡ pageSize ⌝ }
@@ -58,7 +58,7 @@ pub fn may_write<'a>(
     status: &'a [u8],
     number: u64,
     statement: u32,
-    list: &'a [u64; 15],
+    list: &'a [u32],
     row: usize,
 ) -> Answer
     requires { ⌜ length (now status) ≡ pageSize ⌝ }

@@ -7,7 +7,7 @@ use native.Mathlib.Omega.{arith}
 use lib.Dec.{eqb, ltb}
 use lib.ListN.{getD, length}
 use borrow.Author.Tests.{eqb-true, eqb-false, eq-eqb, ne-eqb}
-use Rattle.desk.specs.declared.View.{View}
+use Rattle.desk.specs.View.{View}
 use Rattle.sight.specs.Sight.{known, earlier, listed, committed, standing, sees as seesFor, isCommitted as isDone}
 use Rattle.sight.proofs.Sights.{listed-at, listed-intro}
 use Rattle.machine.specs.Table.{member}

@@ -10,7 +10,7 @@ use lib.ListN.{length}
 use borrow.Author.Tests.{lt-ltb}
 use Rattle.kind.specs.Kind.{rows}
 use Rattle.desk.specs.declared.Desk.{Desk}
-use Rattle.desk.specs.declared.View.{View}
+use Rattle.desk.specs.View.{View}
 use Rattle.sight.specs.Sight.{known, standing}
 use Rattle.chain.specs.Chain.{Version, chainOf}
 use Rattle.chain.specs.Walk.{walkRule, firstIn, thereIn}

@@ -19,7 +19,7 @@ use Rattle.places.proofs.Sounds.{session-unused, session-open}
 use Rattle.places.specs.Open.{openCount, placeIn, isOpen}
 use Rattle.places.specs.Places.{ascending, sessionSound}
 use Rattle.desk.specs.declared.Desk.{Desk}
-use Rattle.desk.specs.declared.View.{View}
+use Rattle.desk.specs.View.{View}
 use Rattle.desk.specs.Sound.{soundColumns, sound}
 use Rattle.desk.specs.Turns.{viewAt, begun, moved, closed, mark}
 use Rattle.sessions.proofs.Ascents.{Rising, ascending-rising, rising-ascending, ascending-agree, ascending-less}

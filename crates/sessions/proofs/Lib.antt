@@ -1,2 +1,3 @@
 pub mod Ascents
 pub mod Changes
+pub mod Lists

@@ -1,1 +1,2 @@
 pub mod Sights
+pub mod Fronts

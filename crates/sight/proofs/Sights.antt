@@ -7,12 +7,11 @@ use mathlib.Core.List.{List}
 use Prim.Native.Nat.{ℕ, _≤_, _<_}
 use native.Mathlib.Omega.{arith}
 use lib.Dec.{eqb, leb, ltb}
-use lib.ListN.{getD}
+use lib.ListN.{getD, length}
 use borrow.Author.Tests.{eqb-true, eqb-false, eq-eqb, ne-eqb, leb-true, le-leb, lt-leb, ltb-true, lt-ltb, le-ltb, not-true}
 use Rattle.ground.specs.Range.{firstFrom}
 use Rattle.ground.proofs.Ranges.{lt-or-le, and-true-left, and-true-right, first-passes, first-before}
-use Rattle.columns.specs.Limits.{members}
-use Rattle.desk.specs.declared.View.{View}
+use Rattle.desk.specs.View.{View}
 use Rattle.status.specs.declared.Status.{Status}
 use Rattle.status.specs.declared.Status.the-variants.{InWork, Committed, Withdrawn, Reserved}
 use Rattle.status.specs.Status.{lastNumber, statusAt}
@@ -58,26 +57,26 @@ module _ (x : ℕ) (s : List ℕ) where
 -- ---- listed
 
 module _ (x : ℕ) (l : List ℕ) where
-  pub listed-at : listed x l ≡ true → (k : ℕ) × (k < 15) × (getD l k 0 ≡ x)
+  pub listed-at : listed x l ≡ true → (k : ℕ) × (k < length l) × (getD l k 0 ≡ x)
   unfolding listed
   listed-at e =
-      let h = ltb-true (firstFrom (λ (k : ℕ). eqb (getD l k 0) x) 0 members) members e in (
-        firstFrom (λ (k : ℕ). eqb (getD l k 0) x) 0 members,
+      let h = ltb-true (firstFrom (λ (k : ℕ). eqb (getD l k 0) x) 0 (length l)) (length l) e in (
+        firstFrom (λ (k : ℕ). eqb (getD l k 0) x) 0 (length l),
         h,
-        eqb-true _ _ (first-passes (λ (k : ℕ). eqb (getD l k 0) x) 0 members h),
+        eqb-true _ _ (first-passes (λ (k : ℕ). eqb (getD l k 0) x) 0 (length l) (omega arith)),
       )
 
-  pub listed-intro : (k : ℕ) → k < 15 → getD l k 0 ≡ x → listed x l ≡ true
+  pub listed-intro : (k : ℕ) → k < length l → getD l k 0 ≡ x → listed x l ≡ true
   unfolding listed
   listed-intro k h e =
       ⊎-elim
-      (λ p. lt-ltb (firstFrom (λ (i : ℕ). eqb (getD l i 0) x) 0 members) members p)
+      (λ p. lt-ltb (firstFrom (λ (i : ℕ). eqb (getD l i 0) x) 0 (length l)) (length l) p)
       (λ p. absurd (passed p))
-      (lt-or-le (firstFrom (λ (i : ℕ). eqb (getD l i 0) x) 0 members) members)
+      (lt-or-le (firstFrom (λ (i : ℕ). eqb (getD l i 0) x) 0 (length l)) (length l))
     where
-      passed : members ≤ firstFrom (λ (i : ℕ). eqb (getD l i 0) x) 0 members → ⊥
+      passed : length l ≤ firstFrom (λ (i : ℕ). eqb (getD l i 0) x) 0 (length l) → ⊥
       passed p =
-          eqb-false (getD l k 0) x (first-before (λ (i : ℕ). eqb (getD l i 0) x) 0 members k (omega arith) (omega arith)) e
+          eqb-false (getD l k 0) x (first-before (λ (i : ℕ). eqb (getD l i 0) x) 0 (length l) k (omega arith) (omega arith)) e
 
 -- ---- seen
 

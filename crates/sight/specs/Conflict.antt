@@ -4,7 +4,7 @@ use Prim.Native.Nat.{ℕ}
 use mathlib.Core.Bool.{Bool, _&&_, cond}
 use mathlib.Core.List.{List}
 use lib.Dec.{eqb, ltb}
-use Rattle.desk.specs.declared.View.{View}
+use Rattle.desk.specs.View.{View}
 use Rattle.sight.specs.declared.Stamp.{Stamp}
 use Rattle.sight.specs.Sight.{committed, sees}
 

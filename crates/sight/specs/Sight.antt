@@ -3,10 +3,9 @@ use Prim.Native.Nat.{ℕ}
 use mathlib.Core.Bool.{Bool, true, false, not, _&&_, _||_, cond}
 use mathlib.Core.List.{List}
 use lib.Dec.{eqb, leb, ltb}
-use lib.ListN.{getD}
+use lib.ListN.{getD, length}
 use Rattle.ground.specs.Range.{firstFrom}
-use Rattle.columns.specs.Limits.{members}
-use Rattle.desk.specs.declared.View.{View}
+use Rattle.desk.specs.View.{View}
 use Rattle.status.specs.declared.Status.{Status}
 use Rattle.status.specs.declared.Status.the-variants.{InWork, Committed, Withdrawn, Reserved}
 use Rattle.status.specs.Status.{lastNumber, statusAt}
@@ -30,9 +29,10 @@ isCommitted Reserved = false
 unfoldable pub committed : ℕ → List ℕ → Bool
 committed x s = isCommitted (standing x s)
 
--- x is in S's list
+-- x is in S's list, as far as the list reaches: over its 15 places as the desk has it, over the used ones where only these are lent.
+-- The unused ones hold 0, which is never seen, so that both say the same (proofs/Fronts.antt)
 unfoldable pub listed : ℕ → List ℕ → Bool
-listed x list = ltb (firstFrom (λ (k : ℕ). eqb (getD list k 0) x) 0 members) members
+listed x list = ltb (firstFrom (λ (k : ℕ). eqb (getD list k 0) x) 0 (length list)) (length list)
 
 -- "S sees X when X is not 0, is below S's number, is not in S's list and has status 01"
 -- (S by its number and its list, since a statement has no part in this)

@@ -1,6 +1,5 @@
 // Who sees what ("01, Sessions and sight"): the status of any number, "S sees X", and "a version is there for S". A version is known
 // here by its stamp alone, so that whatever carries one is seen by the same rule.
-use columns::Limits;
 use desk::Desk;
 use status::Status;
 use status::status_at;
@@ -22,7 +21,7 @@ pub fn standing_of(status: &[u8], x: u64) -> Status
     requires { ⌜ length (now status) ≡ pageSize ⌝ }
     ensures { λ r. ⌜ r ≡ standing x (now (status .entry)) ⌝ }
 {
-    if (Desk::FIRST_NUMBER <= x) & (x <= Status::LAST_NUMBER) {
+    if (Desk::FIRST_NUMBER as u64 <= x) & (x <= Status::LAST_NUMBER) {
         status_at(status, x as usize)
     } else {
         Status::InWork
@@ -42,13 +41,21 @@ pub fn is_committed(status: &[u8], x: u64) -> bool
     }
 }
 
-// Whether x is among the numbers open when the session began.
-fn is_listed(list: &[u64; 15], x: u64) -> bool
+// A listed number beside one that a stamp holds, which may be any.
+fn wide(x: u32) -> u64
+    ensures { λ r. ⌜ r ≡ x ⌝ }
+{
+    x as u64
+}
+
+// Whether x is among the numbers open when the session began. The list is lent as far as it is used, so that no search meets an unused
+// place.
+fn is_listed(list: &[u32], x: u64) -> bool
     ensures { λ r. ⌜ r ≡ listed x (now (list .entry)) ⌝ }
 {
     let mut i = 0;
-    while i < Limits::MEMBERS {
-        if list[i] == x {
+    while i < list.len() {
+        if wide(list[i]) == x {
             return true;
         }
         i += 1;
@@ -58,7 +65,7 @@ fn is_listed(list: &[u64; 15], x: u64) -> bool
 
 // "S sees X when X is not 0, is below S's number, is not in S's list and has status 01": 0 has no status, and the list is
 // searched last.
-pub fn does_see<'a>(number: u64, list: &'a [u64; 15], status: &'a [u8], x: u64) -> bool
+pub fn does_see<'a>(number: u64, list: &'a [u32], status: &'a [u8], x: u64) -> bool
     requires { ⌜ length (now status) ≡ pageSize ⌝ }
     ensures { λ r. ⌜ r ≡ sees number (now (list .entry)) (now (status .entry)) x ⌝ }
 {
@@ -69,7 +76,7 @@ pub fn does_see<'a>(number: u64, list: &'a [u64; 15], status: &'a [u8], x: u64) 
 fn is_known<'a>(
     number: u64,
     statement: u32,
-    list: &'a [u64; 15],
+    list: &'a [u32],
     status: &'a [u8],
     x: u64,
     cmd: u32,
@@ -85,7 +92,7 @@ fn is_known<'a>(
 pub fn is_there<'a>(
     number: u64,
     statement: u32,
-    list: &'a [u64; 15],
+    list: &'a [u32],
     status: &'a [u8],
     t: Stamp,
 ) -> bool

@@ -1,11 +1,13 @@
 -- A call of the station's library, from what its own function ensures; the desk's words, by whether the call is done; and where a body
 -- lies, as the code finds it. Assumes nothing.
 use Prim.Native.Nat.{ℕ, _+_, _≤_, _<_}
-use mathlib.Core.Path.{_≡_, refl, ap, subst, _∙_}
+use mathlib.Core.Path.{_≡_, refl, sym, ap, _∙_}
+use mathlib.Core.Bool.{Bool, true, false, cond}
 use mathlib.Core.List.{List, [], _∷_}
 use lib.ListN.{length, set}
 use native.Mathlib.Omega.{arith}
-use borrow.Author.Tests.{lt-ltb, le-ltb}
+use lib.Dec.{eqb}
+use borrow.Author.Tests.{eqb-false, lt-ltb, le-ltb}
 use Rattle.ground.specs.Does.{Does}
 use Rattle.ground.specs.Refuse.{kept}
 use Rattle.kind.specs.Kind.{rows, entries}
@@ -15,7 +17,8 @@ use Rattle.records.specs.Slot.{slotPlace}
 use Rattle.records.specs.Entry.{entryPlace}
 use Rattle.chain.specs.declared.Place.{Place}
 use Rattle.chain.specs.declared.Place.the-variants.{Nowhere, Data, Undo}
-use Rattle.words.specs.Words.{wordsOf}
+use Rattle.words.specs.Words.{all-words, deskIn, wordsOf}
+use Rattle.words.proofs.Laws.{words-back, words-once}
 use Rattle.station.specs.Station.{left, liesOf}
 
 -- ---- a call
@@ -33,10 +36,6 @@ calls code lent words out rule done n w o =
     let o′ = o ∙ ap out (done .answers) in
     record { answers = n ∙ ap code (done .answers); leaves = λ i. left (lent (l i)) (w′ i) (o′ i) }
 
--- the call of the desk that was made of the words is the call of the desk that they say
-pub on-desk : {A B : Type 0} (rule : Desk → A × B) {d e : Desk} {a : A} {b : B} → d ≡ e → Does (rule d) a b → Does (rule e) a b
-on-desk rule {a = a} {b} same done = subst (λ (d : Desk). Does (rule d) a b) same done
-
 -- a call that writes no area leaves them
 pub reads : {A B : Type 0} (rule : A) {a : A} (b : B) → a ≡ rule → Does (rule, b) a b
 reads rule b e = record { answers = e; leaves = refl }
@@ -46,6 +45,14 @@ reads rule b e = record { answers = e; leaves = refl }
 -- the answer, as its function says it
 pub kept-by : {n m : ℕ} (d : Desk) (w : List ℕ) {l : List ℕ} → n ≡ m → l ≡ kept n (wordsOf d) w → l ≡ kept m (wordsOf d) w
 kept-by d w same e = e ∙ ap (λ (n : ℕ). kept n (wordsOf d) w) same
+
+-- words w that a call has changed to w′, where a refused call leaves the desk that they say
+pub kept-words : (w w′ : List ℕ) → length w ≡ all-words → length w′ ≡ all-words → (n : ℕ) → ((n ≡ 0 → ⊥) → deskIn w′ ≡ deskIn w) → w′ ≡ kept n (wordsOf (deskIn w′)) w
+kept-words w w′ long long′ n left = by (eqb n 0) refl
+  where
+    by : (t : Bool) → eqb n 0 ≡ t → w′ ≡ cond t (wordsOf (deskIn w′)) w
+    by true e = sym (words-back w′ long′)
+    by false e = words-once w′ w long′ long (left (eqb-false n 0 e))
 
 -- ---- what is reported, in words that are lent
 

@@ -1,15 +1,16 @@
 // The store for a station's own program, from C or Rust (include/chirimok.h). Each function hands its call on, and says the number that
-// the call answers, 0 where it is done. The desk is 273 words; they change only where the call is done. No rule is here.
+// the call answers, 0 where it is done. The desk is 273 words of 32 bits, lent; they change only where the call is done. No rule is here.
 use chain::Place;
 use desk::Desk;
 use kind::Kind;
+use words::Words;
 ghost use mathlib.Core.Path.{_≡_};
 ghost use mathlib.Core.List.{[], _∷_};
 ghost use lib.ListN.{length};
 ghost use Rattle.ground.specs.Does.{Does};
 ghost use Rattle.ground.specs.Refuse.{kept};
 ghost use Rattle.kind.specs.Areas.{areas};
-ghost use Rattle.words.specs.Words.{wordsOf};
+ghost use Rattle.words.specs.Words.{all-words, wordsOf};
 ghost use Rattle.station.specs.Station.{left, liesOf, formatCall, openCall, sealCall, beginCall, nextCall, insertCall, updateCall, deleteCall, readCall, commitCall, withdrawCall, sweepCall};
 
 // Where a body lies: 0 nowhere, 1 in the data area, 2 in the undo area, and at which byte of it.
@@ -42,13 +43,13 @@ fn put_three(out: &mut [u64], a: u64, b: u64, c: u64)
     out[2] = c;
 }
 
-// Writes the desk that a call hands back, where it is done; the words of a refused call stay.
-fn put_kept(words: &mut [u64], code: u32, new: Desk)
-    requires { ⌜ length (now words) ≡ 273 ⌝ }
+// Writes the desk that format and open hand back, where they are done; the words of a refused call stay.
+fn put_kept(words: &mut [u32], code: u32, new: Desk)
+    requires { ⌜ length (now words) ≡ all-words ⌝ }
     ensures { λ _. ⌜ now (words .exit) ≡ kept code (wordsOf new) (now (words .entry)) ⌝ }
 {
     if code == 0 {
-        words::put_desk(words, new);
+        words::put_desk(words, new.next, &new.numbers, &new.statements, &new.lists);
     }
 }
 
@@ -87,7 +88,7 @@ pub extern "C" fn chirimok_format(
     data: &mut [u8],
     undo: &mut [u8],
     status: &mut [u8],
-    desk: &mut [u64; 273],
+    desk: &mut Words,
 ) -> u32
     ensures { λ r. ⌜ Does (formatCall (areas (now («data» .entry)) (now (undo .entry)) (now (status .entry))) (now (desk .entry))) r (left (areas (now («data» .exit)) (now (undo .exit)) (now (status .exit))) (now (desk .exit)) []) ⌝ }
 {
@@ -101,12 +102,7 @@ pub extern "C" fn chirimok_format(
 
 // Checks sealed areas, and writes the desk to go on with.
 #[no_mangle]
-pub extern "C" fn chirimok_open(
-    data: &[u8],
-    undo: &[u8],
-    status: &[u8],
-    desk: &mut [u64; 273],
-) -> u32
+pub extern "C" fn chirimok_open(data: &[u8], undo: &[u8], status: &[u8], desk: &mut Words) -> u32
     ensures { λ r. ⌜ Does (openCall (areas (now («data» .entry)) (now (undo .entry)) (now (status .entry))) (now (desk .entry))) r (left (areas (now («data» .entry)) (now (undo .entry)) (now (status .entry))) (now (desk .exit)) []) ⌝ }
 {
     let o = keep::open(data, undo, status);
@@ -123,12 +119,11 @@ pub extern "C" fn chirimok_seal(
     data: &mut [u8],
     undo: &mut [u8],
     status: &mut [u8],
-    desk: &[u64; 273],
+    desk: &Words,
 ) -> u32
     ensures { λ r. ⌜ Does (sealCall (areas (now («data» .entry)) (now (undo .entry)) (now (status .entry))) (now (desk .entry))) r (left (areas (now («data» .exit)) (now (undo .exit)) (now (status .exit))) (now (desk .entry)) []) ⌝ }
 {
-    let d = words::desk_in(desk);
-    let a = keep::seal(data, undo, status, d);
+    let a = keep::seal(data, undo, status, desk);
     answer::code(a)
 }
 
@@ -138,19 +133,15 @@ pub extern "C" fn chirimok_begin(
     data: &[u8],
     undo: &[u8],
     status: &mut [u8],
-    desk: &mut [u64; 273],
+    desk: &mut Words,
     out: &mut [u64; 1],
 ) -> u32
     ensures { λ r. ⌜ Does (beginCall (areas (now («data» .entry)) (now (undo .entry)) (now (status .entry))) (now (desk .entry))) r (left (areas (now («data» .entry)) (now (undo .entry)) (now (status .exit))) (now (desk .exit)) (now (out .exit))) ⌝ }
 {
-    let d = words::desk_in(desk);
-    let b = turns::begin(data, undo, status, d);
+    let b = turns::begin(data, undo, status, desk);
     let a = b.answer;
-    let new = b.desk;
-    let code = answer::code(a);
     put_one(out, b.number);
-    put_kept(desk, code, new);
-    code
+    answer::code(a)
 }
 
 // Moves a session on to its next statement.
@@ -159,18 +150,13 @@ pub extern "C" fn chirimok_next(
     data: &[u8],
     undo: &[u8],
     status: &[u8],
-    desk: &mut [u64; 273],
+    desk: &mut Words,
     session: u64,
 ) -> u32
     ensures { λ r. ⌜ Does (nextCall (areas (now («data» .entry)) (now (undo .entry)) (now (status .entry))) (now (desk .entry)) session) r (left (areas (now («data» .entry)) (now (undo .entry)) (now (status .entry))) (now (desk .exit)) []) ⌝ }
 {
-    let d = words::desk_in(desk);
-    let m = turns::next(data, undo, status, d, session);
-    let a = m.answer;
-    let new = m.desk;
-    let code = answer::code(a);
-    put_kept(desk, code, new);
-    code
+    let a = turns::next(data, undo, status, desk, session);
+    answer::code(a)
 }
 
 // Makes a new row: out has its number.
@@ -179,15 +165,14 @@ pub extern "C" fn chirimok_insert(
     data: &mut [u8],
     undo: &[u8],
     status: &[u8],
-    desk: &[u64; 273],
+    desk: &Words,
     session: u64,
     body: &[u8],
     out: &mut [u64; 1],
 ) -> u32
     ensures { λ r. ⌜ Does (insertCall (areas (now («data» .entry)) (now (undo .entry)) (now (status .entry))) (now (desk .entry)) session (now (body .entry))) r (left (areas (now («data» .exit)) (now (undo .entry)) (now (status .entry))) (now (desk .entry)) (now (out .exit))) ⌝ }
 {
-    let d = words::desk_in(desk);
-    let i = rows::insert(data, undo, status, d, session, body);
+    let i = rows::insert(data, undo, status, desk, session, body);
     let a = i.answer;
     put_one(out, i.row as u64);
     answer::code(a)
@@ -195,19 +180,18 @@ pub extern "C" fn chirimok_insert(
 
 // Replaces a row's body.
 #[no_mangle]
-pub extern "C" fn chirimok_update(
+pub extern "C" fn chirimok_update<'a>(
     data: &mut [u8],
     undo: &mut [u8],
-    status: &[u8],
-    desk: &[u64; 273],
+    status: &'a [u8],
+    desk: &'a Words,
     session: u64,
     row: u64,
     body: &[u8],
 ) -> u32
     ensures { λ r. ⌜ Does (updateCall (areas (now («data» .entry)) (now (undo .entry)) (now (status .entry))) (now (desk .entry)) session row (now (body .entry))) r (left (areas (now («data» .exit)) (now (undo .exit)) (now (status .entry))) (now (desk .entry)) []) ⌝ }
 {
-    let d = words::desk_in(desk);
-    let a = rows::update(data, undo, status, d, session, row as usize, body);
+    let a = rows::update(data, undo, status, desk, session, row as usize, body);
     answer::code(a)
 }
 
@@ -217,14 +201,13 @@ pub extern "C" fn chirimok_delete<'a>(
     data: &mut [u8],
     undo: &'a [u8],
     status: &'a [u8],
-    desk: &[u64; 273],
+    desk: &'a Words,
     session: u64,
     row: u64,
 ) -> u32
     ensures { λ r. ⌜ Does (deleteCall (areas (now («data» .entry)) (now (undo .entry)) (now (status .entry))) (now (desk .entry)) session row) r (left (areas (now («data» .exit)) (now (undo .entry)) (now (status .entry))) (now (desk .entry)) []) ⌝ }
 {
-    let d = words::desk_in(desk);
-    let a = rows::delete(data, undo, status, d, session, row as usize);
+    let a = rows::delete(data, undo, status, desk, session, row as usize);
     answer::code(a)
 }
 
@@ -234,15 +217,14 @@ pub extern "C" fn chirimok_read<'a>(
     data: &'a [u8],
     undo: &'a [u8],
     status: &'a [u8],
-    desk: &[u64; 273],
+    desk: &'a Words,
     session: u64,
     row: u64,
     out: &mut [u64; 3],
 ) -> u32
     ensures { λ r. ⌜ Does (readCall (areas (now («data» .entry)) (now (undo .entry)) (now (status .entry))) (now (desk .entry)) session row) r (left (areas (now («data» .entry)) (now (undo .entry)) (now (status .entry))) (now (desk .entry)) (now (out .exit))) ⌝ }
 {
-    let d = words::desk_in(desk);
-    let r = rows::read(data, undo, status, d, session, row as usize);
+    let r = rows::read(data, undo, status, desk, session, row as usize);
     let a = r.answer;
     let place = r.place;
     let l = lies(data, undo, place);
@@ -256,18 +238,13 @@ pub extern "C" fn chirimok_commit(
     data: &[u8],
     undo: &[u8],
     status: &mut [u8],
-    desk: &mut [u64; 273],
+    desk: &mut Words,
     session: u64,
 ) -> u32
     ensures { λ r. ⌜ Does (commitCall (areas (now («data» .entry)) (now (undo .entry)) (now (status .entry))) (now (desk .entry)) session) r (left (areas (now («data» .entry)) (now (undo .entry)) (now (status .exit))) (now (desk .exit)) []) ⌝ }
 {
-    let d = words::desk_in(desk);
-    let m = turns::commit(data, undo, status, d, session);
-    let a = m.answer;
-    let new = m.desk;
-    let code = answer::code(a);
-    put_kept(desk, code, new);
-    code
+    let a = turns::commit(data, undo, status, desk, session);
+    answer::code(a)
 }
 
 // Takes a session's writes back, and closes it.
@@ -276,18 +253,13 @@ pub extern "C" fn chirimok_withdraw(
     data: &mut [u8],
     undo: &mut [u8],
     status: &mut [u8],
-    desk: &mut [u64; 273],
+    desk: &mut Words,
     session: u64,
 ) -> u32
     ensures { λ r. ⌜ Does (withdrawCall (areas (now («data» .entry)) (now (undo .entry)) (now (status .entry))) (now (desk .entry)) session) r (left (areas (now («data» .exit)) (now (undo .exit)) (now (status .exit))) (now (desk .exit)) []) ⌝ }
 {
-    let d = words::desk_in(desk);
-    let w = undoing::withdraw(data, undo, status, d, session);
-    let a = w.answer;
-    let new = w.desk;
-    let code = answer::code(a);
-    put_kept(desk, code, new);
-    code
+    let a = undoing::withdraw(data, undo, status, desk, session);
+    answer::code(a)
 }
 
 // Sweeps as many rows: out has the next row and the versions removed.
@@ -296,15 +268,14 @@ pub extern "C" fn chirimok_sweep(
     data: &mut [u8],
     undo: &mut [u8],
     status: &[u8],
-    desk: &[u64; 273],
+    desk: &Words,
     first: u64,
     quota: u64,
     out: &mut [u64; 2],
 ) -> u32
     ensures { λ r. ⌜ Does (sweepCall (areas (now («data» .entry)) (now (undo .entry)) (now (status .entry))) (now (desk .entry)) first quota) r (left (areas (now («data» .exit)) (now (undo .exit)) (now (status .entry))) (now (desk .entry)) (now (out .exit))) ⌝ }
 {
-    let d = words::desk_in(desk);
-    let s = sweeping::sweep(data, undo, status, d, first as usize, quota as usize);
+    let s = sweeping::sweep(data, undo, status, desk, first as usize, quota as usize);
     let a = s.answer;
     put_two(out, s.next as u64, s.removed as u64);
     answer::code(a)

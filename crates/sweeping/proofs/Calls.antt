@@ -7,7 +7,6 @@ use native.Mathlib.Omega.{arith}
 use lib.ListN.{length}
 use lib.Dec.{ltb}
 use borrow.Author.Tests.{lt-ltb, le-ltb, ltb-true}
-use Rattle.columns.specs.Columns.{markOf}
 use Rattle.desk.specs.declared.Desk.{Desk}
 use Rattle.desk.specs.Sound.{sound}
 use Rattle.desk.specs.Turns.{mark}
@@ -58,11 +57,11 @@ module _ (d u s : List ℕ) (desk : Desk) (first quota : ℕ) where
 
         -- the next row, and "the versions removed, equal to versions held before less versions held after in those rows"
         pub sweep-0 : {m removed : ℕ} {d′ u′ : List ℕ} → allWhole d u first n ≡ true → Inside first n (both d u)
-            → m ≡ markOf (desk .next) (desk .numbers) (desk .lists)
+            → m ≡ mark desk
             → removed ≡ removedFrom m s first n (both d u)
             → both d′ u′ ≡ sweptFrom m s first n (both d u)
             → sweepRule (areas d u s) desk first quota ≡ ((0, first + n, removed), areas d′ u′ s)
-        unfolding sweepRule sweepRefusal swept mark
+        unfolding sweepRule sweepRefusal swept
         sweep-0 {m} {removed} {d′} {u′} h lies at gone left =
             let whole : allWhole d u first (treated d first quota) ≡ true = ap (allWhole d u first) (sym is) ∙ h in
             let done : sweepRule (areas d u s) desk first quota ≡ after (treated d first quota) (all (mark desk) (treated d first quota))

@@ -1,3 +1,4 @@
 pub mod Treats
+pub mod Dues
 pub mod Calls
 pub mod Promises

@@ -83,8 +83,9 @@ module _ (mark : ℕ) (s d₀ u₀ : List ℕ) (r : ℕ) (m : Slot) where
         ≡ sweptBehind mark s (version (Data r) m) (older u₀ r m) (both d₀ u₀)
     pub within : inside at d u
 
-  pub stays-start : r < rows d₀ → chainFrom u₀ r (entries u₀) [] (m .«undo_ptr») .whole ≡ true → Stays d₀ u₀ (entries u₀) (Data r) m
-  stays-start h w = record { passed = []; whole = w; gone = refl; swept = refl; within = h }
+  pub stays-start : {left : ℕ} → left ≡ entries u₀ → r < rows d₀ → chainFrom u₀ r (entries u₀) [] (m .«undo_ptr») .whole ≡ true
+      → Stays d₀ u₀ left (Data r) m
+  stays-start all h w = rw all (record { passed = []; whole = w; gone = refl; swept = refl; within = h })
 
   module _ (d u : List ℕ) (left : ℕ) (at : Place) (newer : Slot) (h : Stays d u left at newer) where
     abbrev here : Chain

@@ -28,11 +28,11 @@ module _ {b : Bool} (mark : ℕ) (s : List ℕ) (m : Slot) (is : b ≡ committed
 
 -- ---- the place at which a chain is cut
 
--- an area as long has the place as well
-pub inside-long : (at : Place) (d u u′ : List ℕ) → length u′ ≡ length u → inside at d u → inside at d u′
-inside-long (Data r) d u u′ long h = h
-inside-long (Undo e) d u u′ long h = rw long h
-inside-long Nowhere d u u′ long h = tt
+-- areas as long have the place as well
+pub inside-long : (at : Place) (d d′ u u′ : List ℕ) → length d′ ≡ length d → length u′ ≡ length u → inside at d u → inside at d′ u′
+inside-long (Data r) d d′ u u′ long long′ h = rw long h
+inside-long (Undo e) d d′ u u′ long long′ h = rw long′ h
+inside-long Nowhere d d′ u u′ long long′ h = tt
 
 module _ {at : Place} (d u : List ℕ) where
   pub inside-data : (r : ℕ) → at ≡ Data r → inside at d u → r < rows d

@@ -1,4 +1,5 @@
 pub mod Wholes
+pub mod Tallied
 pub mod Cuts
 pub mod Rests
 pub mod Behinds

@@ -1,1 +1,2 @@
 pub mod Trimming
+pub mod Rest

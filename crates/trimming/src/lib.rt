@@ -1,19 +1,19 @@
 // What the sweep does to one row ("01, Writes, withdrawal, sweep"): "the first version whose expirer is committed and below the mark
-// goes with all older ones; the newer version's pointer becomes 0, or the slot is emptied". The row's chain is whole.
+// goes with all older ones; the newer version's pointer becomes 0, or the slot is emptied". The row's chain is whole. The counts of the
+// pages written in are due in the flags lent, so each contract speaks of the areas tallied, before and after.
 use chain::Link;
 use chain::Place;
 use kind::Kind;
 use records::slot::Slot;
 ghost use mathlib.Core.Path.{_≡_};
 ghost use mathlib.Core.Bool.{true};
-ghost use mathlib.Core.List.{[]};
-ghost use Prim.Native.Nat.{_<_};
+ghost use Prim.Native.Nat.{_≤_, _<_};
 ghost use lib.ListN.{length};
-ghost use Rattle.kind.specs.Kind.{pageSize, rows, entries};
-ghost use Rattle.kind.specs.Areas.{both};
-ghost use Rattle.chain.specs.declared.Place.the-variants.{Data};
-ghost use Rattle.chain.specs.Chain.{chainFrom, chainOf};
-ghost use Rattle.trimming.specs.Trimming.{deadIn, unlinked, inside, cutAt, sweptAll, sweptBehind, goneBehind, sweptRow, goneRow};
+ghost use Rattle.kind.specs.Kind.{pageSize, dataKind, undoKind, pages, rows};
+ghost use Rattle.chain.specs.Chain.{chainOf};
+ghost use Rattle.freeing.specs.Tally.{tallied, talliedBoth};
+ghost use Rattle.trimming.specs.Trimming.{deadIn, unlinked, inside, cutAt, sweptRow, goneRow};
+ghost use Rattle.trimming.specs.Rest.{restFrom, sweptRest, goneOlder, sweptOlder};
 
 // Whether a version's "expirer is committed and below the mark".
 fn is_dead(status: &[u8], mark: u64, m: Slot) -> bool
@@ -53,9 +53,10 @@ pub fn is_whole<'a>(data: &'a [u8], undo: &'a [u8], r: usize) -> bool
 }
 
 // Frees the entries of row r from a pointer on, and counts them.
-fn free_rest(undo: &mut [u8], r: usize, first: u64) -> usize
-    ensures counts { λ n. ⌜ n ≡ length (chainFrom (now (undo .entry)) r (entries (now (undo .entry))) [] first .versions) ⌝ }
-    ensures leaves { λ _. ⌜ now (undo .exit) ≡ sweptAll (chainFrom (now (undo .entry)) r (entries (now (undo .entry))) [] first .versions) (now (undo .entry)) ⌝ }
+fn free_rest(undo: &mut [u8], due: &mut [u8], r: usize, first: u64) -> usize
+    requires { ⌜ pages (now undo) ≤ length (now due) ⌝ }
+    ensures counts { λ n. ⌜ n ≡ length (restFrom r first (tallied undoKind (now (due .entry)) (now (undo .entry))) .versions) ⌝ }
+    ensures leaves { λ _. ⌜ tallied undoKind (now (due .exit)) (now (undo .exit)) ≡ sweptRest r first (tallied undoKind (now (due .entry)) (now (undo .entry))) ⌝ }
 {
     let most = undo.len() / Kind::PAGE * Kind::UNDO.count;
     let mut ptr = first;
@@ -65,7 +66,7 @@ fn free_rest(undo: &mut [u8], r: usize, first: u64) -> usize
         let Link::To(e, m) = l else {
             break;
         };
-        freeing::sweep_entry(undo, e);
+        freeing::sweep_entry(undo, due, e);
         ptr = m.copy.undo_ptr;
         n += 1;
     }
@@ -86,14 +87,21 @@ fn unlink(m: Slot) -> Slot
 }
 
 // Cuts the chain behind the version m that lies at a place.
-fn cut(data: &mut [u8], undo: &mut [u8], at: Place, m: Slot)
-    requires { ⌜ inside at (now «data») (now undo) ⌝ }
-    ensures { λ _. ⌜ both (now («data» .exit)) (now (undo .exit)) ≡ cutAt at m (both (now («data» .entry)) (now (undo .entry))) ⌝ }
+fn cut(
+    data: &mut [u8],
+    undo: &mut [u8],
+    data_due: &mut [u8],
+    undo_due: &mut [u8],
+    at: Place,
+    m: Slot,
+)
+    requires { ⌜ inside at (now «data») (now undo) × (pages (now «data») ≤ length (now «data_due»)) × (pages (now undo) ≤ length (now «undo_due»)) ⌝ }
+    ensures { λ _. ⌜ talliedBoth (now («data_due» .exit)) (now («data» .exit)) (now («undo_due» .exit)) (now (undo .exit)) ≡ cutAt at m (talliedBoth (now («data_due» .entry)) (now («data» .entry)) (now («undo_due» .entry)) (now (undo .entry))) ⌝ }
 {
     match at {
         Place::Nowhere => {}
-        Place::Data(r) => freeing::cut_slot(data, r, unlink(m)),
-        Place::Undo(e) => freeing::cut_copy(undo, e, unlink(m)),
+        Place::Data(r) => freeing::cut_slot(data, data_due, r, unlink(m)),
+        Place::Undo(e) => freeing::cut_copy(undo, undo_due, e, unlink(m)),
     }
 }
 
@@ -101,14 +109,16 @@ fn cut(data: &mut [u8], undo: &mut [u8], at: Place, m: Slot)
 fn sweep_behind(
     data: &mut [u8],
     undo: &mut [u8],
+    data_due: &mut [u8],
+    undo_due: &mut [u8],
     status: &[u8],
     r: usize,
     m: Slot,
     mark: u64,
 ) -> usize
-    requires { ⌜ (r < rows (now «data»)) × (length (now status) ≡ pageSize) × (chainFrom (now undo) r (entries (now undo)) [] (m .«undo_ptr») .whole ≡ true) ⌝ }
-    ensures counts { λ n. ⌜ n ≡ goneBehind mark (now (status .entry)) (chainFrom (now (undo .entry)) r (entries (now (undo .entry))) [] (m .«undo_ptr») .versions) ⌝ }
-    ensures leaves { λ _. ⌜ both (now («data» .exit)) (now (undo .exit)) ≡ sweptBehind mark (now (status .entry)) (record { place = Data r; slot = m }) (chainFrom (now (undo .entry)) r (entries (now (undo .entry))) [] (m .«undo_ptr») .versions) (both (now («data» .entry)) (now (undo .entry))) ⌝ }
+    requires { ⌜ (r < rows (now «data»)) × (length (now status) ≡ pageSize) × (pages (now «data») ≤ length (now «data_due»)) × (pages (now undo) ≤ length (now «undo_due»)) × (restFrom r (m .«undo_ptr») (tallied undoKind (now «undo_due») (now undo)) .whole ≡ true) ⌝ }
+    ensures counts { λ n. ⌜ n ≡ goneOlder mark (now (status .entry)) r m (talliedBoth (now («data_due» .entry)) (now («data» .entry)) (now («undo_due» .entry)) (now (undo .entry))) ⌝ }
+    ensures leaves { λ _. ⌜ talliedBoth (now («data_due» .exit)) (now («data» .exit)) (now («undo_due» .exit)) (now (undo .exit)) ≡ sweptOlder mark (now (status .entry)) r m (talliedBoth (now («data_due» .entry)) (now («data» .entry)) (now («undo_due» .entry)) (now (undo .entry))) ⌝ }
 {
     let mut left = undo.len() / Kind::PAGE * Kind::UNDO.count;
     let mut at = Place::Data(r);
@@ -120,8 +130,8 @@ fn sweep_behind(
         };
         let copy = next.copy;
         if is_dead(status, mark, copy) {
-            let n = free_rest(undo, r, newer.undo_ptr);
-            cut(data, undo, at, newer);
+            let n = free_rest(undo, undo_due, r, newer.undo_ptr);
+            cut(data, undo, data_due, undo_due, at, newer);
             return n;
         }
         at = Place::Undo(e);
@@ -132,19 +142,27 @@ fn sweep_behind(
 }
 
 // Sweeps one row, and answers the versions removed.
-pub fn sweep_row(data: &mut [u8], undo: &mut [u8], status: &[u8], r: usize, mark: u64) -> usize
-    requires { ⌜ (r < rows (now «data»)) × (length (now status) ≡ pageSize) × (chainOf (now «data») (now undo) r .whole ≡ true) ⌝ }
-    ensures counts { λ n. ⌜ n ≡ goneRow mark (now (status .entry)) r (both (now («data» .entry)) (now (undo .entry))) ⌝ }
-    ensures leaves { λ _. ⌜ both (now («data» .exit)) (now (undo .exit)) ≡ sweptRow mark (now (status .entry)) r (both (now («data» .entry)) (now (undo .entry))) ⌝ }
+pub fn sweep_row(
+    data: &mut [u8],
+    undo: &mut [u8],
+    data_due: &mut [u8],
+    undo_due: &mut [u8],
+    status: &[u8],
+    r: usize,
+    mark: u64,
+) -> usize
+    requires { ⌜ (r < rows (now «data»)) × (length (now status) ≡ pageSize) × (pages (now «data») ≤ length (now «data_due»)) × (pages (now undo) ≤ length (now «undo_due»)) × (chainOf (tallied dataKind (now «data_due») (now «data»)) (tallied undoKind (now «undo_due») (now undo)) r .whole ≡ true) ⌝ }
+    ensures counts { λ n. ⌜ n ≡ goneRow mark (now (status .entry)) r (talliedBoth (now («data_due» .entry)) (now («data» .entry)) (now («undo_due» .entry)) (now (undo .entry))) ⌝ }
+    ensures leaves { λ _. ⌜ talliedBoth (now («data_due» .exit)) (now («data» .exit)) (now («undo_due» .exit)) (now (undo .exit)) ≡ sweptRow mark (now (status .entry)) r (talliedBoth (now («data_due» .entry)) (now («data» .entry)) (now («undo_due» .entry)) (now (undo .entry))) ⌝ }
 {
     let m = records::slot::read_slot(data, r);
     if m.create == 0 {
         return 0;
     }
     if is_dead(status, mark, m) {
-        let n = free_rest(undo, r, m.undo_ptr);
-        freeing::sweep_slot(data, r);
+        let n = free_rest(undo, undo_due, r, m.undo_ptr);
+        freeing::sweep_slot(data, data_due, r);
         return n + 1;
     }
-    sweep_behind(data, undo, status, r, m, mark)
+    sweep_behind(data, undo, data_due, undo_due, status, r, m, mark)
 }

@@ -45,10 +45,21 @@ module _ (d u s : List ℕ) (desk : Desk) where
         unfolding beginRule beginRefusal
         begin-13 e = rw (l, b, ne-eqb (openCount (desk .numbers)) 16 few, eq-eqb (desk .next) 32576 e)
 
-        pub begin-0 : (desk .next ≡ 32576 → ⊥)
-            → beginRule (areas d u s) desk ≡ ((0, desk .next, begun desk), putField txnId 0 (desk .next) (putStatus (desk .next) InWork s))
+        -- n is the number handed out, y and z the status page with its status, and with its txn_id besides
+        pub begin-0 : {n : ℕ} {new : Desk} {y z : List ℕ}
+            → n ≡ desk .next
+            → (n ≡ 32576 → ⊥)
+            → new ≡ begun desk
+            → y ≡ putStatus n InWork s
+            → z ≡ putField txnId 0 n y
+            → beginRule (areas d u s) desk ≡ ((0, n, new), z)
         unfolding beginRule beginRefusal
-        begin-0 e = rw (l, b, ne-eqb (openCount (desk .numbers)) 16 few, ne-eqb (desk .next) 32576 e)
+        begin-0 {n} e ne is put top =
+            let number = sym e in
+            let desk-now = sym is in
+            let page = sym (top ∙ ap (putField txnId 0 n) put ∙ ap (λ (m : ℕ). putField txnId 0 m (putStatus m InWork s)) e) in
+            rw (l, b, ne-eqb (openCount (desk .numbers)) 16 few, ne-eqb (desk .next) 32576 (λ q. ne (e ∙ q)))
+            (λ i. ((0, number i, desk-now i), page i))
 
   -- ---- next statement and commit, by what admission says of session x
 

@@ -3,44 +3,47 @@
 use mathlib.Core.Path.{_≡_, refl, sym, ap, _∙_}
 use mathlib.Core.List.{List}
 use Prim.Native.Nat.{ℕ}
+use lib.ListN.{length}
 use Rattle.ground.specs.Does.{Does}
 use Rattle.ground.proofs.Refusals.{settled}
 use Rattle.ground.proofs.Once.{once}
+use Rattle.answer.specs.declared.Answer.{Answer}
 use Rattle.answer.proofs.Codes.{codeOf-injective}
 use Rattle.places.specs.Open.{placeIn}
 use Rattle.desk.specs.declared.Desk.{Desk}
 use Rattle.desk.specs.Turns.{begun, moved, closed}
+use Rattle.words.specs.Words.{all-words}
+use Rattle.words.proofs.Laws.{words-once}
 use Rattle.kind.specs.Areas.{Areas}
 use Rattle.page.specs.Header.{txnId, putField}
 use Rattle.status.specs.declared.Status.the-variants.{InWork, Committed}
 use Rattle.status.specs.Status.{putStatus}
 use Rattle.turns.specs.declared.Begun.{Begun}
-use Rattle.turns.specs.declared.Moved.{Moved}
 use Rattle.turns.specs.Turns.{saidBegun, saidMoved, beginRefusal, beginRule, nextRefusal, nextRule, commitRefusal, commitRule}
 
--- ---- no second result
+-- ---- no second result: answer, words and status page
 
-saidBegun-injective : (r r′ : Begun) → saidBegun r ≡ saidBegun r′ → r ≡ r′
-saidBegun-injective r r′ e =
-    let a : r .answer ≡ r′ .answer = codeOf-injective (r .answer) (r′ .answer) (ap (λ (p : ℕ × ℕ × Desk). p .0) e) in
-    let n : r .number ≡ r′ .number = ap (λ (p : ℕ × ℕ × Desk). p .1) e in
-    let d : r .desk ≡ r′ .desk = ap (λ (p : ℕ × ℕ × Desk). p .2) e in
-    λ i. record { answer = a i; number = n i; desk = d i }
+module _ (w w′ : List ℕ) (long : length w ≡ all-words) (long′ : length w′ ≡ all-words) where
+  saidBegun-injective : (r r′ : Begun) → saidBegun r w ≡ saidBegun r′ w′ → (r ≡ r′) × (w ≡ w′)
+  saidBegun-injective r r′ e =
+      let a : r .answer ≡ r′ .answer = codeOf-injective (r .answer) (r′ .answer) (ap (λ (p : ℕ × ℕ × Desk). p .0) e) in
+      let n : r .number ≡ r′ .number = ap (λ (p : ℕ × ℕ × Desk). p .1) e in
+      (λ i. record { answer = a i; number = n i }, words-once w w′ long long′ (ap (λ (p : ℕ × ℕ × Desk). p .2) e))
 
-saidMoved-injective : (r r′ : Moved) → saidMoved r ≡ saidMoved r′ → r ≡ r′
-saidMoved-injective r r′ e =
-    let a : r .answer ≡ r′ .answer = codeOf-injective (r .answer) (r′ .answer) (ap (λ (p : ℕ × Desk). p .0) e) in
-    let d : r .desk ≡ r′ .desk = ap (λ (p : ℕ × Desk). p .1) e in
-    λ i. record { answer = a i; desk = d i }
+  saidMoved-injective : (r r′ : Answer) → saidMoved r w ≡ saidMoved r′ w′ → (r ≡ r′) × (w ≡ w′)
+  saidMoved-injective r r′ e =
+      (codeOf-injective r r′ (ap (λ (p : ℕ × Desk). p .0) e), words-once w w′ long long′ (ap (λ (p : ℕ × Desk). p .1) e))
 
-pub begin-once : (a : Areas) (d : Desk) (r r′ : Begun) (x x′ : List ℕ) → Does (beginRule a d) (saidBegun r) x → Does (beginRule a d) (saidBegun r′) x′ → (r ≡ r′) × (x ≡ x′)
-begin-once a d r r′ x x′ p q = let o = once p q in (saidBegun-injective r r′ (o .0), o .1)
+  pub begin-once : (a : Areas) (d : Desk) (r r′ : Begun) (x x′ : List ℕ) → Does (beginRule a d) (saidBegun r w) x → Does (beginRule a d) (saidBegun r′ w′) x′
+      → ((r ≡ r′) × (w ≡ w′)) × (x ≡ x′)
+  begin-once a d r r′ x x′ p q = let o = once p q in (saidBegun-injective r r′ (o .0), o .1)
 
-pub next-once : (a : Areas) (d : Desk) (x : ℕ) (r r′ : Moved) → saidMoved r ≡ nextRule a d x → saidMoved r′ ≡ nextRule a d x → r ≡ r′
-next-once a d x r r′ p q = saidMoved-injective r r′ (p ∙ sym q)
+  pub next-once : (a : Areas) (d : Desk) (x : ℕ) (r r′ : Answer) → saidMoved r w ≡ nextRule a d x → saidMoved r′ w′ ≡ nextRule a d x → (r ≡ r′) × (w ≡ w′)
+  next-once a d x r r′ p q = saidMoved-injective r r′ (p ∙ sym q)
 
-pub commit-once : (a : Areas) (d : Desk) (s : ℕ) (r r′ : Moved) (x x′ : List ℕ) → Does (commitRule a d s) (saidMoved r) x → Does (commitRule a d s) (saidMoved r′) x′ → (r ≡ r′) × (x ≡ x′)
-commit-once a d s r r′ x x′ p q = let o = once p q in (saidMoved-injective r r′ (o .0), o .1)
+  pub commit-once : (a : Areas) (d : Desk) (s : ℕ) (r r′ : Answer) (x x′ : List ℕ) → Does (commitRule a d s) (saidMoved r w) x → Does (commitRule a d s) (saidMoved r′ w′) x′
+      → ((r ≡ r′) × (w ≡ w′)) × (x ≡ x′)
+  commit-once a d s r r′ x x′ p q = let o = once p q in (saidMoved-injective r r′ (o .0), o .1)
 
 -- ---- a refused call leaves everything
 

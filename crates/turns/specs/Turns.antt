@@ -6,6 +6,7 @@ use mathlib.Core.List.{List, [], _∷_}
 use lib.ListN.{getD}
 use lib.Dec.{eqb}
 use Rattle.ground.specs.Refuse.{firstOf, settle}
+use Rattle.answer.specs.declared.Answer.{Answer}
 use Rattle.answer.specs.Code.{codeOf}
 use Rattle.columns.specs.Limits.{sessions, lastStatement}
 use Rattle.places.specs.Open.{openCount, placeIn, isOpen}
@@ -13,19 +14,19 @@ use Rattle.desk.specs.declared.Desk.{Desk}
 use Rattle.desk.specs.Desk.{lastNext}
 use Rattle.desk.specs.Sound.{sound}
 use Rattle.desk.specs.Turns.{begun, moved, closed}
+use Rattle.words.specs.Words.{deskIn}
 use Rattle.kind.specs.Areas.{Areas, badLength}
 use Rattle.page.specs.Header.{txnId, putField}
 use Rattle.status.specs.declared.Status.the-variants.{InWork, Committed}
 use Rattle.status.specs.Status.{putStatus}
 use Rattle.turns.specs.declared.Begun.{Begun}
-use Rattle.turns.specs.declared.Moved.{Moved}
 
--- the paper's number and values of what the calls answer
-abbrev pub saidBegun : Begun → ℕ × ℕ × Desk
-saidBegun r = (codeOf (r .answer), r .number, r .desk)
+-- the paper's number and values of what the calls answer, with the desk that their words say then
+abbrev pub saidBegun : Begun → List ℕ → ℕ × ℕ × Desk
+saidBegun r w = (codeOf (r .answer), r .number, deskIn w)
 
-abbrev pub saidMoved : Moved → ℕ × Desk
-saidMoved r = (codeOf (r .answer), r .desk)
+abbrev pub saidMoved : Answer → List ℕ → ℕ × Desk
+saidMoved r w = (codeOf r, deskIn w)
 
 -- ---- begin
 

@@ -5,18 +5,14 @@ use chain::Link;
 use desk::Desk;
 use kind::Kind;
 use status::Status;
+use words::Words;
 ghost use mathlib.Core.Path.{_≡_};
 ghost use Prim.Native.Nat.{_<_};
 ghost use Rattle.ground.specs.Does.{Does};
 ghost use Rattle.kind.specs.Kind.{rows};
 ghost use Rattle.kind.specs.Areas.{areas, both};
+ghost use Rattle.words.specs.Words.{deskIn, Desks};
 ghost use Rattle.undoing.specs.Undoing.{someBroken, undoneFrom, saidWithdrawn, withdrawRule};
-
-// What withdraw answers: the desk, which a refusal leaves as it was.
-pub struct Withdrawn {
-    pub answer: Answer,
-    pub desk: Desk,
-}
 
 // Whether in some row "a break [is] met between a slot created by S and the first version not created by S". A chain that leads to an
 // entry already passed goes round, until as many copies as there are entries were looked at.
@@ -77,36 +73,24 @@ pub fn withdraw(
     data: &mut [u8],
     undo: &mut [u8],
     status: &mut [u8],
-    desk: Desk,
+    desk: &mut Words,
     session: u64,
-) -> Withdrawn
-    ensures { λ r. ⌜ Does (withdrawRule (areas (now («data» .entry)) (now (undo .entry)) (now (status .entry))) desk session) (saidWithdrawn r) (areas (now («data» .exit)) (now (undo .exit)) (now (status .exit))) ⌝ }
+) -> Answer
+    ensures does { λ r. ⌜ Does (withdrawRule (areas (now («data» .entry)) (now (undo .entry)) (now (status .entry))) (deskIn (now (desk .entry))) session) (saidWithdrawn r (now (desk .exit))) (areas (now («data» .exit)) (now (undo .exit)) (now (status .exit))) ⌝ }
+    ensures desks { λ _. ⌜ Desks (now (desk .entry)) (now (desk .exit)) ⌝ }
 {
-    let a = admit::admit(
-        data.len(),
-        undo.len(),
-        status.len(),
-        desk.next,
-        &desk.numbers,
-        &desk.statements,
-        &desk.lists,
-        session,
-    );
+    let a = admit::admit(data.len(), undo.len(), status.len(), desk, session);
     match a {
-        Admitted::Refused(answer) => Withdrawn { answer, desk },
+        Admitted::Refused(answer) => answer,
         Admitted::At(k) => {
             if is_broken(data, undo, session, Desk::FIRST_STATEMENT) {
-                return Withdrawn {
-                    answer: Answer::Broken,
-                    desk,
-                };
+                return Answer::Broken;
             }
             undo_rows(data, undo, session, Desk::FIRST_STATEMENT);
             status::put_status(status, session as usize, Status::Withdrawn);
-            Withdrawn {
-                answer: Answer::Done,
-                desk: desk.withdraw(k),
-            }
+            let new = words::desk_in(desk).withdraw(k);
+            words::put_desk(desk, new.next, &new.numbers, &new.statements, &new.lists);
+            Answer::Done
         }
     }
 }

@@ -2,9 +2,9 @@
 -- say, and a count written anew keeps it so. Then of the pages of an area: what a field, a status and a record stored leave of that.
 -- Assumes nothing.
 use mathlib.Core.Path.{_≡_, refl, sym, ap, ap₂, subst, _∙_}
-use mathlib.Core.Bool.{Bool, true, not, _&&_}
+use mathlib.Core.Bool.{Bool, true, _&&_}
 use mathlib.Core.List.{List, [], _∷_, _++_}
-use Prim.Native.Nat.{ℕ, _+_, _*_, _/_, _%_, _^_, _≤_, _<_}
+use Prim.Native.Nat.{ℕ, _+_, _/_, _%_, _^_, _≤_, _<_}
 use native.Mathlib.Nat.{add-zero, zero-add, add-assoc, mod-lt, one-le-pow}
 use native.Mathlib.Omega.{arith}
 use lib.ListN.{length, take, drop}
@@ -12,7 +12,7 @@ use lib.Seq.{sets}
 use lib.Dec.{eqb}
 use borrow.Author.Tests.{eqb-true}
 use Rattle.ground.specs.Range.{countBelow}
-use Rattle.ground.proofs.Ranges.{and-true-left, and-true-right, count-agree, count-le}
+use Rattle.ground.proofs.Ranges.{and-true-left, and-true-right, count-le}
 use Rattle.little.specs.Little.{little, digits, part, holds}
 use Rattle.little.proofs.Digits.{length-digits, digits-low}
 use Rattle.little.proofs.Parts.{part-part, part-sets-below, part-sets-above, little-sets}
@@ -24,6 +24,7 @@ use Rattle.status.specs.declared.Status.{Status}
 use Rattle.status.specs.Status.{putStatus}
 use Rattle.page.specs.Header.{header, pageAt, txnId, checksum, itemCount, fieldIn, putField}
 use Rattle.page.specs.Count.{inUse, itemsIn, counted}
+use Rattle.page.proofs.Counts.{itemsIn-header}
 use Rattle.page.proofs.Headers.{length-pageAt, pageAt-putField-same, pageAt-putField-other, fieldIn-header, header-at, header-putStatus}
 use Rattle.whole.specs.Whole.{headerRight}
 
@@ -86,13 +87,6 @@ rightWith-front k id n page =
 rightWith-same : (k : Kind) (id n : ℕ) (x y : List ℕ) → part 0 48 y ≡ part 0 48 x → rightWith k id n y ≡ rightWith k id n x
 rightWith-same k id n x y e =
     sym (rightWith-front k id n y) ∙ ap (rightWith k id n) e ∙ rightWith-front k id n x
-
--- what is stored into the header is no record
-pub itemsIn-header : (k : Kind) (o : ℕ) (page vs : List ℕ) → o + length vs ≤ 48 → itemsIn k (sets page o vs) ≡ itemsIn k page
-unfolding itemsIn inUse
-itemsIn-header k o page vs h =
-    count-agree (inUse (k .size) (sets page o vs)) (inUse (k .size) page) (k .count)
-    (λ i l. ap (λ (b : List ℕ). not (eqb (little b) 0)) (part-sets-above (48 + i * k .size) 8 page o vs (omega arith)))
 
 -- no more are counted than there are
 itemsIn-few : (k : Kind) (page : List ℕ) → itemsIn k page ≤ k .count

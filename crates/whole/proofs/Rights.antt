@@ -33,9 +33,9 @@ use Rattle.status.specs.Status.{statusShift, statusOf, statusAt}
 use Rattle.status.proofs.StatusLaws.{unit-pos, statusAt-page}
 use Rattle.whole.specs.Whole.{checksumOf, pageRight, headerRight, sealedPage, blankPage, freshPage}
 use Rattle.page.proofs.Headers.{length-putField, pageAt-putField-same, pageAt-putField-other, statusAt-putField}
-use Rattle.page.proofs.Counts.{recordAt-putField}
+use Rattle.page.proofs.Counts.{itemsIn-header, recordAt-putField}
 use Rattle.whole.proofs.Wholes.{length-blankPage}
-use Rattle.whole.proofs.Headers.{itemsIn-header, headerRight-checksum}
+use Rattle.whole.proofs.Headers.{headerRight-checksum}
 
 -- ---- the checksum of a page: it fits its field, and the field does not count
 

@@ -1,23 +1,38 @@
--- The desk as 273 words: "next, 16 numbers, 16 statements, 16 lists of 15", and back. Assumes nothing.
-use Prim.Native.Nat.{ℕ, _+_, _^_}
-use mathlib.Core.Bool.{Bool, cond}
+-- The desk as words of 32 bits: next, 16 numbers, 16 statements, 16 lists of 15; and back. Where each column lies among them is said
+-- here, once. Assumes nothing.
+use Prim.Native.Nat.{ℕ, _+_}
 use mathlib.Core.List.{List, _∷_, _++_}
-use lib.ListN.{getD, take, drop}
-use lib.Dec.{ltb}
-use Rattle.ground.specs.Range.{allBelow}
+use mathlib.Core.Path.{_≡_}
+use lib.ListN.{length, getD, take, drop}
+use Rattle.columns.specs.Limits.{sessions, places}
 use Rattle.desk.specs.declared.Desk.{Desk}
-use Rattle.desk.specs.Desk.{noDesk}
 
--- each statement's word fits its place, of 32 bits
-unfoldable pub statementsFit : List ℕ → Bool
-statementsFit w = allBelow (λ (i : ℕ). ltb (getD w (17 + i) 0) (2 ^ 32)) 16
+-- where the columns begin, and how many words there are
+abbrev pub numbersAt : ℕ
+numbersAt = 1
 
--- the desk that words say; a word that doesn't fit its place makes it unsound
+abbrev pub statementsAt : ℕ
+statementsAt = numbersAt + sessions
+
+abbrev pub listsAt : ℕ
+listsAt = statementsAt + sessions
+
+abbrev pub all-words : ℕ
+all-words = listsAt + places
+
+-- words before a call and behind it, as many as a desk has: then what they say decides them
+abbrev pub Desks : List ℕ → List ℕ → Type 0
+Desks w v = (length w ≡ all-words) × (length v ≡ all-words)
+
+-- a desk by its columns
+abbrev pub deskOf : ℕ → List ℕ → List ℕ → List ℕ → Desk
+deskOf next numbers statements lists = record { next = next; numbers = numbers; statements = statements; lists = lists }
+
+-- the desk that words say
 unfoldable pub deskIn : List ℕ → Desk
 deskIn w =
-    cond (statementsFit w)
-    (record { next = getD w 0 0; numbers = take 16 (drop 1 w); statements = take 16 (drop 17 w); lists = take 240 (drop 33 w) })
-    noDesk
+    deskOf (getD w 0 0) (take sessions (drop numbersAt w)) (take sessions (drop statementsAt w)) (take places (drop listsAt w))
 
+-- the words that a desk is written as
 unfoldable pub wordsOf : Desk → List ℕ
 wordsOf d = d .next ∷ (d .numbers ++ d .statements ++ d .lists)

@@ -1,80 +1,155 @@
-// The desk as 273 words, as a station's own program holds it: next, 16 numbers, 16 statements, 16 lists of 15.
+// The desk as words of 32 bits, as a station's own program holds it. Where each column lies among them is said here, and nowhere above:
+// a call that leaves the desk as it is is lent the words, and asks of them what it needs; a Desk is made of them for the calls that
+// change it.
+use columns::Column;
+use columns::Limits;
+use columns::Lists;
 use desk::Desk;
 ghost use mathlib.Core.Path.{_≡_};
-ghost use lib.ListN.{length, take, drop};
-ghost use mathlib.Core.Bool.{true};
+ghost use Prim.Native.Nat.{_+_, _<_, _≤_};
+ghost use lib.ListN.{length, getD, take, drop};
 ghost use lib.Seq.{sets};
-ghost use Prim.Native.Nat.{_+_, _≤_};
-ghost use Rattle.words.specs.Words.{deskIn, wordsOf, statementsFit};
+ghost use Rattle.columns.specs.Limits.{sessions, members, places};
+ghost use Rattle.columns.specs.Columns.{usedIn, usedOf};
+ghost use Rattle.places.specs.Open.{openCount, placeIn};
+ghost use Rattle.desk.specs.Sound.{sound};
+ghost use Rattle.desk.specs.Turns.{viewAt, mark as mark·spec};
+ghost use Rattle.words.specs.Words.{all-words, deskOf, deskIn, wordsOf};
 
-// The most that a statement's place holds.
-const MOST: u64 = 4294967295;
+// Where the columns begin among the words: the next number is the first, and behind it come the numbers, the statements and the lists.
+pub struct Layout;
 
-// Whether each of the 16 words of statements fits its place.
-fn fit(words: &[u64]) -> bool
-    requires { ⌜ length (now words) ≡ 273 ⌝ }
-    ensures { λ r. ⌜ r ≡ statementsFit (now (words .entry)) ⌝ }
+impl Layout {
+    pub const NUMBERS: usize = 1;
+
+    pub const STATEMENTS: usize = Layout::NUMBERS + Limits::SESSIONS;
+
+    pub const LISTS: usize = Layout::STATEMENTS + Limits::SESSIONS;
+    // How many words there are.
+    pub const WORDS: usize = Layout::LISTS + Limits::PLACES;
+}
+
+pub type Words = [u32; Layout::WORDS];
+
+// Whether the desk that the words say is sound.
+pub fn is_sound(words: &[u32]) -> bool
+    requires { ⌜ length (now words) ≡ all-words ⌝ }
+    ensures { λ r. ⌜ r ≡ sound (deskIn (now (words .entry))) ⌝ }
 {
-    let mut i = 0;
-    while i < 16 {
-        if words[17 + i] > MOST {
-            return false;
+    desk::columns_sound(
+        words[0],
+        &words[Layout::NUMBERS..Layout::STATEMENTS],
+        &words[Layout::STATEMENTS..Layout::LISTS],
+        &words[Layout::LISTS..Layout::WORDS],
+    )
+}
+
+// The number that the next session gets.
+pub fn next(words: &[u32]) -> u32
+    requires { ⌜ length (now words) ≡ all-words ⌝ }
+    ensures { λ r. ⌜ r ≡ deskIn (now (words .entry)) .next ⌝ }
+{
+    words[0]
+}
+
+// How many sessions are open.
+pub fn open_count(words: &[u32]) -> usize
+    requires { ⌜ length (now words) ≡ all-words ⌝ }
+    ensures { λ r. ⌜ (r ≡ openCount (deskIn (now (words .entry)) .numbers)) × (r ≤ sessions) ⌝ }
+{
+    places::open_count(&words[Layout::NUMBERS..Layout::STATEMENTS])
+}
+
+// The place at which session x stands; where it stands nowhere, 16.
+pub fn find(words: &[u32], x: u64) -> usize
+    requires { ⌜ length (now words) ≡ all-words ⌝ }
+    ensures { λ r. ⌜ (r ≡ placeIn x (deskIn (now (words .entry)) .numbers)) × (r ≤ sessions) ⌝ }
+{
+    places::find(&words[Layout::NUMBERS..Layout::STATEMENTS], x)
+}
+
+// The statement of the session at place k.
+pub fn statement(words: &[u32], k: usize) -> u32
+    requires { ⌜ (length (now words) ≡ all-words) × (k < sessions) ⌝ }
+    ensures { λ r. ⌜ r ≡ getD (deskIn (now (words .entry)) .statements) k 0 ⌝ }
+{
+    words[Layout::STATEMENTS + k]
+}
+
+// How many places of a list are used, before the first unused one.
+fn used(list: &[u32]) -> usize
+    requires { ⌜ length (now list) ≡ members ⌝ }
+    ensures { λ r. ⌜ (r ≡ usedIn (now (list .entry))) × (r ≤ members) ⌝ }
+{
+    let mut n = 0;
+    while n < Limits::MEMBERS {
+        if list[n] == 0 {
+            return n;
         }
-        i += 1;
+        n += 1;
     }
-    true
+    n
 }
 
-fn numbers_in(words: &[u64]) -> [u64; 16]
-    requires { ⌜ length (now words) ≡ 273 ⌝ }
-    ensures { λ r. ⌜ r ≡ take 16 (drop 1 (now (words .entry))) ⌝ }
+// The numbers open when the session at place k began, lent where they lie: the used places of its list, since in a sound desk an
+// unused one has nothing behind it.
+pub fn list<'a>(words: &'a [u32], k: usize) -> &'a [u32]
+    requires { ⌜ (length (now words) ≡ all-words) × (k < sessions) ⌝ }
+    ensures { λ r. ⌜ now r ≡ usedOf (viewAt k (deskIn (now (words .entry))) .list) ⌝ }
 {
-    let mut numbers = [0; 16];
-    let mut i = 0;
-    while i < 16 {
-        numbers[i] = words[1 + i];
-        i += 1;
-    }
-    numbers
+    let at = Layout::LISTS + k * Limits::MEMBERS;
+    let end = at + Limits::MEMBERS;
+    let n = used(&words[at..end]);
+    let last = at + n;
+    &words[at..last]
 }
 
-fn statements_in(words: &[u64]) -> [u32; 16]
-    requires { ⌜ (length (now words) ≡ 273) × (statementsFit (now words) ≡ true) ⌝ }
-    ensures { λ r. ⌜ r ≡ take 16 (drop 17 (now (words .entry))) ⌝ }
+// The mark of the desk that the words say.
+pub fn mark(words: &[u32]) -> u32
+    requires { ⌜ length (now words) ≡ all-words ⌝ }
+    ensures { λ r. ⌜ r ≡ mark·spec (deskIn (now (words .entry))) ⌝ }
 {
-    let mut statements = [0; 16];
-    let mut i = 0;
-    while i < 16 {
-        statements[i] = words[17 + i] as u32;
-        i += 1;
-    }
-    statements
+    columns::mark(
+        words[0],
+        &words[Layout::NUMBERS..Layout::STATEMENTS],
+        &words[Layout::LISTS..Layout::WORDS],
+    )
 }
 
-fn lists_in(words: &[u64]) -> [u64; 240]
-    requires { ⌜ length (now words) ≡ 273 ⌝ }
-    ensures { λ r. ⌜ r ≡ take 240 (drop 33 (now (words .entry))) ⌝ }
+fn column_in(words: &[u32], at: usize) -> Column
+    requires { ⌜ at + sessions ≤ length (now words) ⌝ }
+    ensures { λ r. ⌜ r ≡ take sessions (drop at (now (words .entry))) ⌝ }
 {
-    let mut lists = [0; 240];
+    let mut column = [0; Limits::SESSIONS];
     let mut i = 0;
-    while i < 240 {
-        lists[i] = words[33 + i];
+    while i < Limits::SESSIONS {
+        column[i] = words[at + i];
+        i += 1;
+    }
+    column
+}
+
+fn lists_in(words: &[u32], at: usize) -> Lists
+    requires { ⌜ at + places ≤ length (now words) ⌝ }
+    ensures { λ r. ⌜ r ≡ take places (drop at (now (words .entry))) ⌝ }
+{
+    let mut lists = [0; Limits::PLACES];
+    let mut i = 0;
+    while i < Limits::PLACES {
+        lists[i] = words[at + i];
         i += 1;
     }
     lists
 }
 
-// The desk that the words say. A word that doesn't fit its place makes the desk unsound.
-pub fn desk_in(words: &[u64]) -> Desk
-    requires { ⌜ length (now words) ≡ 273 ⌝ }
+// The desk that the words say.
+pub fn desk_in(words: &[u32]) -> Desk
+    requires { ⌜ length (now words) ≡ all-words ⌝ }
     ensures { λ r. ⌜ r ≡ deskIn (now (words .entry)) ⌝ }
 {
-    if !fit(words) {
-        return Desk::fresh(0);
-    }
-    let numbers = numbers_in(words);
-    let statements = statements_in(words);
-    let lists = lists_in(words);
+    let numbers = column_in(words, Layout::NUMBERS);
+    let statements = column_in(words, Layout::STATEMENTS);
+    let lists = lists_in(words, Layout::LISTS);
     Desk {
         next: words[0],
         numbers,
@@ -83,49 +158,45 @@ pub fn desk_in(words: &[u64]) -> Desk
     }
 }
 
-fn put_numbers(words: &mut [u64], at: usize, numbers: [u64; 16])
-    requires { ⌜ at + 16 ≤ length (now words) ⌝ }
-    ensures { λ _. ⌜ now (words .exit) ≡ sets (now (words .entry)) at numbers ⌝ }
+fn put_part(words: &mut [u32], at: usize, part: &[u32])
+    requires { ⌜ at + length (now part) ≤ length (now words) ⌝ }
+    ensures { λ _. ⌜ now (words .exit) ≡ sets (now (words .entry)) at (now (part .entry)) ⌝ }
 {
     let mut i = 0;
-    while i < 16 {
-        words[at + i] = numbers[i];
+    while i < part.len() {
+        words[at + i] = part[i];
         i += 1;
     }
 }
 
-fn put_statements(words: &mut [u64], at: usize, statements: [u32; 16])
-    requires { ⌜ at + 16 ≤ length (now words) ⌝ }
-    ensures { λ _. ⌜ now (words .exit) ≡ sets (now (words .entry)) at statements ⌝ }
+// Writes a desk, lent by its columns, as words, which say that desk.
+pub fn put_desk<'a>(
+    words: &mut [u32],
+    next: u32,
+    numbers: &'a Column,
+    statements: &'a Column,
+    lists: &'a Lists,
+)
+    requires { ⌜ length (now words) ≡ all-words ⌝ }
+    ensures { λ _. ⌜ (now (words .exit) ≡ wordsOf (deskOf next (now (numbers .entry)) (now (statements .entry)) (now (lists .entry)))) × (deskIn (now (words .exit)) ≡ deskOf next (now (numbers .entry)) (now (statements .entry)) (now (lists .entry))) ⌝ }
 {
-    let mut i = 0;
-    while i < 16 {
-        words[at + i] = statements[i] as u64;
-        i += 1;
-    }
+    words[0] = next;
+    put_part(words, Layout::NUMBERS, numbers);
+    put_part(words, Layout::STATEMENTS, statements);
+    put_part(words, Layout::LISTS, lists);
 }
 
-fn put_lists(words: &mut [u64], at: usize, lists: [u64; 240])
-    requires { ⌜ at + 240 ≤ length (now words) ⌝ }
-    ensures { λ _. ⌜ now (words .exit) ≡ sets (now (words .entry)) at lists ⌝ }
+// A desk's words.
+pub fn words_of(desk: Desk) -> Words
+    ensures { λ r. ⌜ (r ≡ wordsOf desk) × (deskIn r ≡ desk) ⌝ }
 {
-    let mut i = 0;
-    while i < 240 {
-        words[at + i] = lists[i];
-        i += 1;
-    }
-}
-
-// Writes a desk as words.
-pub fn put_desk(words: &mut [u64], desk: Desk)
-    requires { ⌜ length (now words) ≡ 273 ⌝ }
-    ensures { λ _. ⌜ now (words .exit) ≡ wordsOf desk ⌝ }
-{
-    let numbers = desk.numbers;
-    let statements = desk.statements;
-    let lists = desk.lists;
-    words[0] = desk.next;
-    put_numbers(words, 1, numbers);
-    put_statements(words, 17, statements);
-    put_lists(words, 33, lists);
+    let mut words = [0; Layout::WORDS];
+    put_desk(
+        &mut words,
+        desk.next,
+        &desk.numbers,
+        &desk.statements,
+        &desk.lists,
+    );
+    words
 }

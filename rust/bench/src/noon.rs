@@ -1,40 +1,32 @@
-//! The noon work itself, for any engine.
+//! The noon work of 02, T-12: 100,000 reads and updates, nine reads to one update over 300 rows,
+//! with a new session for each update and its nine reads and a sweep of all rows after every 200
+//! updates.
 
-use std::time::{Duration, Instant};
+use std::time::Instant;
 
-/// Rows at work; they need 3 data pages.
-pub const ROWS: u64 = 300;
+use crate::engine::{Engine, body};
+use crate::turns::{Turn, Turns, take_turns};
 
-/// Bytes in the data and in the undo area: 3 pages each.
-pub const AREA: usize = 3 * PAGE;
+/// Rows at work.
+const ROWS: u64 = 300;
 
-/// Bytes in a page, and in the status area.
-pub const PAGE: usize = 8192;
+/// Pages of data and of undo: three hold the rows.
+const PAGES: usize = 3;
 
 const UPDATES: u64 = 10_000;
 const READS_EACH: u64 = 9;
 const UPDATES_EACH_SWEEP: u64 = 200;
 
-/// The calls that the noon work makes. None may be refused.
-pub trait Engine {
-    fn begin(&mut self) -> u64;
-    fn insert(&mut self, session: u64, body: &[u8]) -> u64;
-    fn update(&mut self, session: u64, row: u64, body: &[u8]);
-    /// The count of versions looked at, and the body.
-    fn read(&self, session: u64, row: u64) -> (u64, &[u8]);
-    fn commit(&mut self, session: u64);
-    /// Sweeps all rows and answers the versions removed.
-    fn sweep(&mut self) -> u64;
-}
+/// How often each engine does the noon work.
+const TURNS: usize = 151;
 
-/// How long the work took, and a sum over all that was read.
-pub struct Done {
-    pub time: Duration,
-    pub sum: u64,
+/// Times both engines, each at a store of its own, anew in each turn.
+pub fn noon<A: Engine, B: Engine>() -> [Turns; 2] {
+    take_turns(TURNS, || turn(&mut A::formatted(PAGES)), || turn(&mut B::formatted(PAGES)))
 }
 
 /// Fills the rows, then times the noon work.
-pub fn noon(engine: &mut impl Engine) -> Done {
+fn turn(engine: &mut impl Engine) -> Turn {
     let session = engine.begin();
     for row in 0..ROWS {
         assert_eq!(engine.insert(session, &body(row)), row);
@@ -47,27 +39,19 @@ pub fn noon(engine: &mut impl Engine) -> Done {
     for update in 1..=UPDATES {
         sum += one_session(engine, &mut rows, update);
         if update % UPDATES_EACH_SWEEP == 0 {
-            sum += engine.sweep();
+            sum += engine.sweep(ROWS);
         }
     }
-    Done { time: start.elapsed(), sum }
+    Turn { time: start.elapsed(), sum }
 }
 
 /// A new session with its nine reads and its update.
 fn one_session(engine: &mut impl Engine, rows: &mut Rows, update: u64) -> u64 {
     let session = engine.begin();
-    let mut sum = 0u64;
-    for _ in 0..READS_EACH {
-        let (count, body) = engine.read(session, rows.next());
-        sum += count + u64::from(body[0]);
-    }
+    let sum = (0..READS_EACH).map(|_| engine.read(session, rows.next())).sum();
     engine.update(session, rows.next(), &body(update));
     engine.commit(session);
     sum
-}
-
-fn body(number: u64) -> [u8; 32] {
-    [number as u8; 32]
 }
 
 /// Rows in an order that jumps about and is the same for each engine.

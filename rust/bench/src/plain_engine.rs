@@ -1,8 +1,8 @@
-//! The ordinary Rust version at noon.
+//! The ordinary Rust version.
 
 use plain::{Area, Desk};
 
-use crate::noon::{AREA, Engine, PAGE, ROWS};
+use crate::engine::{Engine, Lent, PAGE};
 
 pub struct PlainEngine {
     data: Vec<u8>,
@@ -11,23 +11,51 @@ pub struct PlainEngine {
     desk: Desk,
 }
 
-impl PlainEngine {
-    /// A formatted store on cleared areas.
-    pub fn cleared() -> Self {
-        let (mut data, mut undo, mut status) = (vec![0; AREA], vec![0; AREA], vec![0; PAGE]);
-        let desk = plain::format(&mut data, &mut undo, &mut status).expect("format");
+impl Engine for PlainEngine {
+    const NAME: &'static str = "plain";
+
+    fn formatted(pages: usize) -> Self {
+        let (mut data, mut undo) = (vec![0; pages * PAGE], vec![0; pages * PAGE]);
+        let mut status = vec![0; PAGE];
+        let mut desk = Desk::without_sessions(Desk::FIRST_NUMBER);
+        plain::format(&mut data, &mut undo, &mut status, &mut desk).expect("format");
         Self { data, undo, status, desk }
     }
-}
 
-impl Engine for PlainEngine {
+    fn take(&mut self, lent: &Lent) {
+        self.data.copy_from_slice(&lent.data);
+        self.undo.copy_from_slice(&lent.undo);
+        self.status.copy_from_slice(&lent.status);
+        self.desk = Desk::from_words(&lent.desk);
+    }
+
+    fn lent(&self) -> Lent {
+        let Self { data, undo, status, desk } = self;
+        let (data, undo, status) = (data.clone(), undo.clone(), status.clone());
+        Lent { data, undo, status, desk: desk.words() }
+    }
+
+    fn open(&mut self) {
+        plain::open(&self.data, &self.undo, &self.status, &mut self.desk).expect("open");
+    }
+
+    fn seal(&mut self) {
+        let Self { data, undo, status, desk } = self;
+        plain::seal(data, undo, status, desk).expect("seal");
+    }
+
     fn begin(&mut self) -> u64 {
         plain::begin(&self.data, &self.undo, &mut self.status, &mut self.desk).expect("begin")
     }
 
+    fn next(&mut self, session: u64) {
+        let Self { data, undo, status, desk } = self;
+        plain::next(data, undo, status, desk, session).expect("next");
+    }
+
     fn insert(&mut self, session: u64, body: &[u8]) -> u64 {
-        plain::insert(&mut self.data, &self.undo, &self.status, &self.desk, session, body)
-            .expect("insert")
+        let Self { data, undo, status, desk } = self;
+        plain::insert(data, undo, status, desk, session, body).expect("insert")
     }
 
     fn update(&mut self, session: u64, row: u64, body: &[u8]) {
@@ -35,23 +63,33 @@ impl Engine for PlainEngine {
         plain::update(data, undo, status, desk, session, row, body).expect("update");
     }
 
-    fn read(&self, session: u64, row: u64) -> (u64, &[u8]) {
+    fn delete(&mut self, session: u64, row: u64) {
+        let Self { data, undo, status, desk } = self;
+        plain::delete(data, undo, status, desk, session, row).expect("delete");
+    }
+
+    fn read(&mut self, session: u64, row: u64) -> u64 {
         let Self { data, undo, status, desk } = self;
         let reading = plain::read(data, undo, status, desk, session, row).expect("read");
         let area = match reading.body.area {
             Area::Data => data,
             Area::Undo => undo,
         };
-        (reading.count, &area[reading.body.at..reading.body.at + 32])
+        reading.count + u64::from(area[reading.body.at])
     }
 
     fn commit(&mut self, session: u64) {
-        plain::commit(&self.data, &self.undo, &mut self.status, &mut self.desk, session)
-            .expect("commit");
+        let Self { data, undo, status, desk } = self;
+        plain::commit(data, undo, status, desk, session).expect("commit");
     }
 
-    fn sweep(&mut self) -> u64 {
+    fn withdraw(&mut self, session: u64) {
         let Self { data, undo, status, desk } = self;
-        plain::sweep(data, undo, status, desk, 0, ROWS).expect("sweep").removed
+        plain::withdraw(data, undo, status, desk, session).expect("withdraw");
+    }
+
+    fn sweep(&mut self, rows: u64) -> u64 {
+        let Self { data, undo, status, desk } = self;
+        plain::sweep(data, undo, status, desk, 0, rows).expect("sweep").removed
     }
 }

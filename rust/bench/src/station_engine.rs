@@ -1,48 +1,100 @@
-//! The proved store at noon, through its safe wrapper.
+//! The proved store, through its safe wrapper.
 
 use chirimok::{Desk, Store};
 
-use crate::noon::{AREA, Engine, PAGE, ROWS};
+use crate::engine::{Engine, Lent, PAGE};
 
 pub struct StationEngine {
-    store: Store<'static>,
+    data: Vec<u8>,
+    undo: Vec<u8>,
+    status: Vec<u8>,
     desk: Desk,
 }
 
 impl StationEngine {
-    /// A formatted store on cleared areas. They are never given back: a run has few turns.
-    pub fn cleared() -> Self {
-        let cleared = |length| vec![0; length].leak();
-        let mut store = Store::new(cleared(AREA), cleared(AREA), cleared(PAGE));
-        let mut desk = Desk::new();
-        store.format(&mut desk).expect("format");
-        Self { store, desk }
+    /// What a call takes: the areas, lent, and the desk.
+    fn lend(&mut self) -> (Store<'_>, &mut Desk) {
+        (Store::new(&mut self.data, &mut self.undo, &mut self.status), &mut self.desk)
     }
 }
 
 impl Engine for StationEngine {
+    const NAME: &'static str = "station";
+
+    fn formatted(pages: usize) -> Self {
+        let (data, undo, status) = (vec![0; pages * PAGE], vec![0; pages * PAGE], vec![0; PAGE]);
+        let mut engine = Self { data, undo, status, desk: Desk::new() };
+        let (mut store, desk) = engine.lend();
+        store.format(desk).expect("format");
+        engine
+    }
+
+    fn take(&mut self, lent: &Lent) {
+        self.data.copy_from_slice(&lent.data);
+        self.undo.copy_from_slice(&lent.undo);
+        self.status.copy_from_slice(&lent.status);
+        self.desk = Desk::from_words(lent.desk);
+    }
+
+    fn lent(&self) -> Lent {
+        let Self { data, undo, status, desk } = self;
+        let (data, undo, status) = (data.clone(), undo.clone(), status.clone());
+        Lent { data, undo, status, desk: *desk.words() }
+    }
+
+    fn open(&mut self) {
+        let (store, desk) = self.lend();
+        store.open(desk).expect("open");
+    }
+
+    fn seal(&mut self) {
+        let (mut store, desk) = self.lend();
+        store.seal(desk).expect("seal");
+    }
+
     fn begin(&mut self) -> u64 {
-        self.store.begin(&mut self.desk).expect("begin")
+        let (mut store, desk) = self.lend();
+        store.begin(desk).expect("begin")
+    }
+
+    fn next(&mut self, session: u64) {
+        let (store, desk) = self.lend();
+        store.next(desk, session).expect("next");
     }
 
     fn insert(&mut self, session: u64, body: &[u8]) -> u64 {
-        self.store.insert(&self.desk, session, body).expect("insert")
+        let (mut store, desk) = self.lend();
+        store.insert(desk, session, body).expect("insert")
     }
 
     fn update(&mut self, session: u64, row: u64, body: &[u8]) {
-        self.store.update(&self.desk, session, row, body).expect("update");
+        let (mut store, desk) = self.lend();
+        store.update(desk, session, row, body).expect("update");
     }
 
-    fn read(&self, session: u64, row: u64) -> (u64, &[u8]) {
-        let reading = self.store.read(&self.desk, session, row).expect("read");
-        (reading.count, reading.body)
+    fn delete(&mut self, session: u64, row: u64) {
+        let (mut store, desk) = self.lend();
+        store.delete(desk, session, row).expect("delete");
+    }
+
+    fn read(&mut self, session: u64, row: u64) -> u64 {
+        let (store, desk) = self.lend();
+        let reading = store.read(desk, session, row).expect("read");
+        reading.count + u64::from(reading.body[0])
     }
 
     fn commit(&mut self, session: u64) {
-        self.store.commit(&mut self.desk, session).expect("commit");
+        let (mut store, desk) = self.lend();
+        store.commit(desk, session).expect("commit");
     }
 
-    fn sweep(&mut self) -> u64 {
-        self.store.sweep(&self.desk, 0, ROWS).expect("sweep").removed
+    fn withdraw(&mut self, session: u64) {
+        let (mut store, desk) = self.lend();
+        store.withdraw(desk, session).expect("withdraw");
+    }
+
+    fn sweep(&mut self, rows: u64) -> u64 {
+        let (mut store, desk) = self.lend();
+        store.sweep(desk, 0, rows).expect("sweep").removed
     }
 }

@@ -11,7 +11,7 @@ const LISTS: usize = STATEMENTS + SESSIONS;
 
 /// The session record that goes into each call (01, Sessions and sight).
 #[derive(Clone, Debug, PartialEq, Eq)]
-pub struct Desk([u64; WORDS]);
+pub struct Desk([u32; WORDS]);
 
 /// An open session at the desk.
 #[derive(Clone, Copy, Debug, PartialEq, Eq)]
@@ -19,9 +19,9 @@ pub struct Session<'d> {
     /// Its number.
     pub number: u64,
     /// The statement in which it is.
-    pub statement: u64,
+    pub statement: u32,
     /// The numbers that were open when it began, ascending.
-    pub list: &'d [u64],
+    pub list: &'d [u32],
 }
 
 impl Desk {
@@ -34,22 +34,22 @@ impl Desk {
 
     /// A desk from the words that a caller kept. Every call but format and open answers
     /// [`Refusal::UnsoundDesk`](crate::Refusal::UnsoundDesk) where they break a rule.
-    pub const fn from_words(words: [u64; WORDS]) -> Self {
+    pub const fn from_words(words: [u32; WORDS]) -> Self {
         Self(words)
     }
 
     /// The desk's words: next, 16 numbers, 16 statements, 16 lists of 15.
-    pub const fn words(&self) -> &[u64; WORDS] {
+    pub const fn words(&self) -> &[u32; WORDS] {
         &self.0
     }
 
-    pub(crate) const fn words_mut(&mut self) -> &mut [u64; WORDS] {
+    pub(crate) const fn words_mut(&mut self) -> &mut [u32; WORDS] {
         &mut self.0
     }
 
     /// The number that the next session gets.
     pub const fn next(&self) -> u64 {
-        self.0[0]
+        self.0[0] as u64
     }
 
     /// The open sessions, ascending by number.
@@ -59,7 +59,7 @@ impl Desk {
         let places = numbers.iter().zip(statements).zip(lists);
         places.take_while(|((number, _), _)| **number != 0).map(|((&number, &statement), list)| {
             let used = list.iter().position(|&member| member == 0).unwrap_or(MEMBERS);
-            Session { number, statement, list: &list[..used] }
+            Session { number: number.into(), statement, list: &list[..used] }
         })
     }
 }

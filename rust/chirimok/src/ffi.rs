@@ -7,7 +7,7 @@
 use crate::desk::WORDS;
 
 /// The desk's words.
-type Words = [u64; WORDS];
+type Words = [u32; WORDS];
 
 unsafe extern "C" {
     fn chirimok_format(

@@ -22,16 +22,13 @@ impl Engine for Plain {
     }
 
     fn call(&self, store: &mut Store, call: &Call) -> Answer {
-        let mut desk = store.plain_desk();
-        match plain_call(store, &mut desk, call) {
-            Ok(values) => {
-                store.set_plain_desk(&desk);
-                Answer::done(values)
-            }
-            Err(refusal) => {
-                assert_eq!(desk, store.plain_desk(), "a refusal leaves the desk unchanged");
-                Answer::refused(refusal.number())
-            }
+        let mut desk = Desk::from_words(&store.desk);
+        let answer = plain_call(store, &mut desk, call);
+        // The desk is taken back after a refusal too: the call must not have changed it.
+        store.desk = desk.words();
+        match answer {
+            Ok(values) => Answer::done(values),
+            Err(refusal) => Answer::refused(refusal.number()),
         }
     }
 }
@@ -40,8 +37,8 @@ fn plain_call(store: &mut Store, desk: &mut Desk, call: &Call) -> Result<[u64; 3
     let Store { data, undo, status, .. } = store;
     let done = [0; 3];
     match *call {
-        Call::Format => plain::format(data, undo, status).map(|fresh| *desk = fresh).map(|()| done),
-        Call::Open => plain::open(data, undo, status).map(|fresh| *desk = fresh).map(|()| done),
+        Call::Format => plain::format(data, undo, status, desk).map(|()| done),
+        Call::Open => plain::open(data, undo, status, desk).map(|()| done),
         Call::Seal => plain::seal(data, undo, status, desk).map(|()| done),
         Call::Begin => plain::begin(data, undo, status, desk).map(|number| [number, 0, 0]),
         Call::Next { session } => plain::next(data, undo, status, desk, session).map(|()| done),

@@ -15,7 +15,7 @@ pub struct Store {
     pub data: Vec<u8>,
     pub undo: Vec<u8>,
     pub status: Vec<u8>,
-    pub desk: [u64; WORDS],
+    pub desk: [u32; WORDS],
 }
 
 impl Store {
@@ -25,7 +25,7 @@ impl Store {
             data: vec![0xA5; data_pages * PAGE],
             undo: vec![0x5A; undo_pages * PAGE],
             status: vec![0xFF; PAGE],
-            desk: [u64::MAX; WORDS],
+            desk: [u32::MAX; WORDS],
         }
     }
 
@@ -34,50 +34,29 @@ impl Store {
     }
 
     pub fn next(&self) -> u64 {
-        self.desk[0]
+        self.desk[0].into()
     }
 
-    pub fn next_mut(&mut self) -> &mut u64 {
+    pub fn next_mut(&mut self) -> &mut u32 {
         &mut self.desk[0]
     }
 
-    pub fn number_mut(&mut self, place: usize) -> &mut u64 {
+    pub fn number_mut(&mut self, place: usize) -> &mut u32 {
         &mut self.desk[NUMBERS + place]
     }
 
-    pub fn statement_mut(&mut self, place: usize) -> &mut u64 {
+    pub fn statement_mut(&mut self, place: usize) -> &mut u32 {
         &mut self.desk[STATEMENTS + place]
     }
 
-    pub fn member_mut(&mut self, place: usize, member: usize) -> &mut u64 {
+    pub fn member_mut(&mut self, place: usize, member: usize) -> &mut u32 {
         &mut self.desk[LISTS + place * 15 + member]
     }
 
     /// The numbers in the desk's session places, up to the first zero.
     pub fn sessions(&self) -> impl Iterator<Item = u64> + Clone + '_ {
-        self.desk[NUMBERS..STATEMENTS].iter().copied().take_while(|&number| number != 0)
-    }
-
-    /// The desk as `plain` takes it. A statement that does not fit 32 bits stays unsound.
-    pub fn plain_desk(&self) -> plain::Desk {
-        let statement = |word: u64| u32::try_from(word).unwrap_or(u32::MAX);
-        plain::Desk {
-            next: self.next(),
-            numbers: std::array::from_fn(|place| self.desk[NUMBERS + place]),
-            statements: std::array::from_fn(|place| statement(self.desk[STATEMENTS + place])),
-            lists: std::array::from_fn(|place| {
-                std::array::from_fn(|member| self.desk[LISTS + place * 15 + member])
-            }),
-        }
-    }
-
-    pub fn set_plain_desk(&mut self, desk: &plain::Desk) {
-        self.desk[0] = desk.next;
-        self.desk[NUMBERS..STATEMENTS].copy_from_slice(&desk.numbers);
-        for (word, &statement) in self.desk[STATEMENTS..LISTS].iter_mut().zip(&desk.statements) {
-            *word = u64::from(statement);
-        }
-        self.desk[LISTS..].copy_from_slice(desk.lists.as_flattened());
+        let numbers = self.desk[NUMBERS..STATEMENTS].iter();
+        numbers.map(|&number| number.into()).take_while(|&number| number != 0)
     }
 
     /// Where another store differs, in words for a failing test; none where it is equal.

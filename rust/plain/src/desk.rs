@@ -1,5 +1,8 @@
 //! The desk: the next number and the open sessions (01, Sessions and sight).
 
+use std::array::from_fn;
+use std::iter;
+
 use crate::Refusal;
 use crate::status::HIGHEST_NUMBER;
 
@@ -9,18 +12,25 @@ pub const SESSIONS: usize = 16;
 /// The most numbers that can be open when a session begins.
 pub const MEMBERS: usize = 15;
 
-/// The session record that goes into each call. Used places come first; unused ones are zero.
+/// Words in a desk.
+pub const WORDS: usize = 1 + SESSIONS + SESSIONS + SESSIONS * MEMBERS;
+
+/// The session record that goes into each call: 273 words. Used places come first; unused ones are
+/// zero.
 #[derive(Clone, Debug, PartialEq, Eq)]
+#[repr(C)]
 pub struct Desk {
     /// The number that the next session gets.
-    pub next: u64,
+    pub next: u32,
     /// The open sessions' numbers, ascending.
-    pub numbers: [u64; SESSIONS],
+    pub numbers: [u32; SESSIONS],
     /// The statement in which each session is.
     pub statements: [u32; SESSIONS],
     /// The numbers that were open when each session began, ascending.
-    pub lists: [[u64; MEMBERS]; SESSIONS],
+    pub lists: [[u32; MEMBERS]; SESSIONS],
 }
+
+const _: () = assert!(size_of::<Desk>() == size_of::<[u32; WORDS]>());
 
 /// An open session, as sight needs it.
 #[derive(Clone, Copy)]
@@ -29,26 +39,34 @@ pub struct Session<'a> {
     pub place: usize,
     pub number: u64,
     pub statement: u32,
-    pub list: &'a [u64; MEMBERS],
+    pub list: &'a [u32; MEMBERS],
 }
 
 /// Whether used places come first, ascend and stay below `limit`, and the others are zero.
 #[inline]
-fn places_sound(places: &[u64], limit: u64) -> bool {
-    let (used, unused) = places.split_at(used(places));
-    used.is_sorted_by(|one, other| one < other)
-        && used.last().is_none_or(|&last| last < limit)
-        && all_zero(unused)
+fn places_sound(places: &[u32], limit: u32) -> bool {
+    let mut places = places.iter();
+    let mut last = 0;
+    while let Some(&place) = places.next() {
+        if place == 0 {
+            return places.all(|&unused| unused == 0);
+        }
+        if place <= last || place >= limit {
+            return false;
+        }
+        last = place;
+    }
+    true
 }
 
-/// One test at the end instead of one for each place, eight places a step: most places of a desk
+/// One test at the end instead of one for each place, sixteen places a step: most places of a desk
 /// are unused, and every call looks at all of them.
 #[inline]
-fn all_zero(places: &[u64]) -> bool {
-    let (eights, rest) = places.as_chunks::<8>();
-    let mut lanes = [0; 8];
-    for eight in eights {
-        for (lane, place) in lanes.iter_mut().zip(eight) {
+fn all_zero(places: &[u32]) -> bool {
+    let (sixteens, rest) = places.as_chunks::<16>();
+    let mut lanes = [0; 16];
+    for sixteen in sixteens {
+        for (lane, place) in lanes.iter_mut().zip(sixteen) {
             *lane |= place;
         }
     }
@@ -57,13 +75,13 @@ fn all_zero(places: &[u64]) -> bool {
 
 /// How many places stand before the first zero.
 #[inline]
-fn used(places: &[u64]) -> usize {
+fn used(places: &[u32]) -> usize {
     places.iter().position(|&place| place == 0).unwrap_or(places.len())
 }
 
 impl Desk {
     /// The first number that a store hands out.
-    pub const FIRST_NUMBER: u64 = 1;
+    pub const FIRST_NUMBER: u32 = 1;
 
     /// The statement in which a session begins.
     pub const FIRST_STATEMENT: u32 = 0;
@@ -72,16 +90,35 @@ impl Desk {
     pub const LAST_STATEMENT: u32 = 65_535;
 
     /// `next` once all numbers are handed out.
-    pub const NUMBERS_END: u64 = HIGHEST_NUMBER + 1;
+    pub const NUMBERS_END: u32 = HIGHEST_NUMBER + 1;
 
     /// A desk without sessions.
-    pub const fn without_sessions(next: u64) -> Self {
+    pub const fn without_sessions(next: u32) -> Self {
         Self {
             next,
             numbers: [0; SESSIONS],
             statements: [0; SESSIONS],
             lists: [[0; MEMBERS]; SESSIONS],
         }
+    }
+
+    /// The desk that the words say: next, numbers, statements, lists.
+    pub fn from_words(words: &[u32; WORDS]) -> Self {
+        let mut words = words.iter().copied();
+        let mut word = || words.next().expect("as many words as a desk has places");
+        Self {
+            next: word(),
+            numbers: from_fn(|_| word()),
+            statements: from_fn(|_| word()),
+            lists: from_fn(|_| from_fn(|_| word())),
+        }
+    }
+
+    /// The desk's words: next, numbers, statements, lists.
+    pub fn words(&self) -> [u32; WORDS] {
+        let columns = [&self.numbers[..], &self.statements, self.lists.as_flattened()];
+        let mut words = iter::once(&self.next).chain(columns.into_iter().flatten());
+        from_fn(|_| *words.next().expect("as many words as a desk has places"))
     }
 
     /// How many sessions are open.
@@ -96,10 +133,16 @@ impl Desk {
         let open = self.open();
         let sound = (Self::FIRST_NUMBER..=Self::NUMBERS_END).contains(&self.next)
             && places_sound(&self.numbers, self.next)
-            && self.statements[..open].iter().all(|&statement| statement <= Self::LAST_STATEMENT)
-            && self.statements[open..].iter().all(|&statement| statement == 0)
+            && self.statements_sound(open)
             && self.lists_sound(open);
         if sound { Ok(()) } else { Err(Refusal::UnsoundDesk) }
+    }
+
+    #[inline]
+    fn statements_sound(&self, open: usize) -> bool {
+        let (used, unused) = self.statements.split_at(open);
+        used.iter().all(|&statement| statement <= Self::LAST_STATEMENT)
+            && unused.iter().all(|&statement| statement == 0)
     }
 
     #[inline]
@@ -113,7 +156,8 @@ impl Desk {
     /// it.
     #[inline]
     pub fn session(&self, number: u64) -> Result<Session<'_>, Refusal> {
-        let place = self.numbers.iter().position(|&open| open == number && open != 0);
+        let used = &self.numbers[..self.open()];
+        let place = used.iter().position(|&open| u64::from(open) == number);
         let place = place.ok_or(Refusal::SessionNotOpen)?;
         Ok(Session { place, number, statement: self.statements[place], list: &self.lists[place] })
     }
@@ -123,7 +167,8 @@ impl Desk {
     pub fn mark(&self) -> u64 {
         let open = self.open();
         let members = self.lists[..open].iter().map(|list| list[0]).filter(|&member| member != 0);
-        members.chain(self.numbers[..open].first().copied()).min().unwrap_or(self.next)
+        let mark = members.chain(self.numbers[..open].first().copied()).min().unwrap_or(self.next);
+        mark.into()
     }
 
     /// Opens a session in the first unused place, which must be there, and answers its number.
@@ -134,16 +179,17 @@ impl Desk {
         self.numbers[open] = number;
         self.statements[open] = Self::FIRST_STATEMENT;
         self.next += 1;
-        number
+        number.into()
     }
 
     /// Moves later sessions up. Other sessions' lists keep the closed number.
     pub fn close(&mut self, place: usize) {
-        self.numbers.copy_within(place + 1.., place);
-        self.statements.copy_within(place + 1.., place);
-        self.lists.copy_within(place + 1.., place);
-        self.numbers[SESSIONS - 1] = 0;
-        self.statements[SESSIONS - 1] = 0;
-        self.lists[SESSIONS - 1] = [0; MEMBERS];
+        let last = self.open() - 1;
+        self.numbers.copy_within(place + 1..=last, place);
+        self.statements.copy_within(place + 1..=last, place);
+        self.lists.copy_within(place + 1..=last, place);
+        self.numbers[last] = 0;
+        self.statements[last] = 0;
+        self.lists[last] = [0; MEMBERS];
     }
 }

@@ -29,7 +29,7 @@ mod withdraw;
 
 pub use chain::{Area, Place};
 pub use crc32c::crc32c;
-pub use desk::Desk;
+pub use desk::{Desk, WORDS};
 pub use refusal::Refusal;
 pub use rows::{Reading, delete, insert, read, update};
 pub use sessions::{begin, commit, next};

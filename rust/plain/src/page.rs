@@ -7,6 +7,8 @@ use crate::crc32c::Crc32c;
 /// Bytes in a page.
 pub const PAGE: usize = 8192;
 
+pub type Page = [u8; PAGE];
+
 /// Bytes before the first record.
 pub const HEADER: usize = 48;
 
@@ -20,7 +22,19 @@ const PAGE_TYPE: usize = 44;
 const ENGINE_TAG: usize = 45;
 const FORMAT_VERSION: usize = 47;
 
-/// What the pages of one area have in common.
+/// The pages of an area.
+#[inline]
+pub fn pages(area: &[u8]) -> &[Page] {
+    area.as_chunks().0
+}
+
+#[inline]
+pub fn pages_mut(area: &mut [u8]) -> &mut [Page] {
+    area.as_chunks_mut().0
+}
+
+/// What the pages of one area have in common. What runs over records is always inlined, so that a
+/// kind's numbers are constants there.
 pub struct Kind {
     page_type: u8,
     engine_tag: u8,
@@ -85,19 +99,23 @@ impl Kind {
     }
 
     /// The lowest free record of the area, in its lowest page that has one.
+    #[inline(always)]
     pub fn lowest_free(&self, area: &[u8]) -> Option<usize> {
-        area.chunks_exact(PAGE).zip((0..).step_by(self.records)).find_map(|(page, first)| {
-            let record = self.records_at().position(|at| !in_use(page, at))?;
-            Some(first + record)
-        })
+        for (number, page) in pages(area).iter().enumerate() {
+            if let Some(record) = self.records_at().position(|at| !in_use(page, at)) {
+                return Some(number * self.records + record);
+            }
+        }
+        None
     }
 
-    fn count_items(&self, page: &[u8]) -> u16 {
+    #[inline(always)]
+    fn count_items(&self, page: &Page) -> u16 {
         self.records_at().map(|at| u16::from(in_use(page, at))).sum()
     }
 
     /// Writes an empty page's bytes; `number` starts at 1 in each area.
-    fn format_page(&self, page: &mut [u8], number: u32) {
+    fn format_page(&self, page: &mut Page, number: u32) {
         page.fill(0);
         put(page, PAGE_ID, number.to_le_bytes());
         put(page, FREE_SPACE_OFFSET, self.free_space_offset.to_le_bytes());
@@ -108,13 +126,13 @@ impl Kind {
     }
 
     pub fn format_area(&self, area: &mut [u8]) {
-        for (page, number) in area.chunks_exact_mut(PAGE).zip(1..) {
+        for (page, number) in pages_mut(area).iter_mut().zip(1..) {
             self.format_page(page, number);
         }
     }
 
     /// Whether each header field but txn_id is what it must be, as open asks.
-    fn page_sound(&self, page: &[u8], number: u32) -> bool {
+    fn page_sound(&self, page: &Page, number: u32) -> bool {
         let zeros = [0..TXN_ID, 24..FREE_SPACE_OFFSET, 40..PAGE_TYPE, 46..FORMAT_VERSION];
         zeros.into_iter().all(|part| page[part].iter().all(|&byte| byte == 0))
             && u32_at(page, PAGE_ID) == number
@@ -127,11 +145,12 @@ impl Kind {
     }
 
     pub fn area_sound(&self, area: &[u8]) -> bool {
-        area.chunks_exact(PAGE).zip(1..).all(|(page, number)| self.page_sound(page, number))
+        pages(area).iter().zip(1..).all(|(page, number)| self.page_sound(page, number))
     }
 
     /// Counts a touched page's records anew; what stood there may have been wrong.
-    pub fn recount(&self, page: &mut [u8]) {
+    #[inline(always)]
+    pub fn recount(&self, page: &mut Page) {
         let items = self.count_items(page);
         put(page, ITEM_COUNT, items.to_le_bytes());
     }
@@ -144,17 +163,17 @@ pub fn in_use(bytes: &[u8], record: usize) -> bool {
 }
 
 /// CRC32C over the page without the four checksum bytes.
-fn checksum(page: &[u8]) -> u32 {
+fn checksum(page: &Page) -> u32 {
     Crc32c::new().over(&page[..CHECKSUM]).over(&page[CHECKSUM + 4..]).sum()
 }
 
-fn seal_page(page: &mut [u8]) {
+fn seal_page(page: &mut Page) {
     let sum = checksum(page);
     put(page, CHECKSUM, sum.to_le_bytes());
 }
 
 pub fn seal_area(area: &mut [u8]) {
-    area.chunks_exact_mut(PAGE).for_each(seal_page);
+    pages_mut(area).iter_mut().for_each(seal_page);
 }
 
 /// Refusal 1 looks at all three areas in every call.

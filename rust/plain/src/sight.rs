@@ -9,10 +9,16 @@ use crate::status::committed;
 
 impl Session<'_> {
     /// "S sees X when X is not 0, is below S's number, is not in S's list and has status 01."
-    /// Number 0 is never committed, so the list's unused places do no harm.
     #[inline]
     fn sees(&self, status: &[u8], number: u64) -> bool {
-        number < self.number && committed(status, number) && !self.list.contains(&number)
+        number < self.number && committed(status, number) && !self.lists(number)
+    }
+
+    /// Whether the number was open when the session began. Used places come first.
+    #[inline]
+    fn lists(&self, number: u64) -> bool {
+        let mut used = self.list.iter().take_while(|&&member| member != 0);
+        used.any(|&member| u64::from(member) == number)
     }
 
     /// Whether `number`, in statement `cmd`, is the session in an earlier statement or is seen.

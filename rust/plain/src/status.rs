@@ -4,7 +4,7 @@ use crate::bytes::{put, u64_at};
 use crate::page::{HEADER, TXN_ID};
 
 /// The highest number for which the page has room.
-pub const HIGHEST_NUMBER: u64 = 32_575;
+pub const HIGHEST_NUMBER: u32 = 32_575;
 
 /// What a number's two bits say; 11 is reserved and never written.
 #[derive(Clone, Copy, PartialEq, Eq)]
@@ -24,7 +24,7 @@ const fn place(number: u64) -> (usize, u32) {
 /// "Number 0 and numbers above 32,575 are never committed."
 #[inline]
 pub fn committed(status: &[u8], number: u64) -> bool {
-    if number == 0 || number > HIGHEST_NUMBER {
+    if number == 0 || number > HIGHEST_NUMBER.into() {
         return false;
     }
     let (byte, shift) = place(number);
@@ -38,19 +38,17 @@ pub fn set(status: &mut [u8], number: u64, state: State) {
     status[byte] = status[byte] & !(0b11 << shift) | (state as u8) << shift;
 }
 
-/// The highest number handed out: the status page's txn_id.
-pub fn highest(status: &[u8]) -> u64 {
-    u64_at(status, TXN_ID)
-}
-
+/// Writes the highest number handed out: the status page's txn_id.
 pub fn put_highest(status: &mut [u8], number: u64) {
     put(status, TXN_ID, number.to_le_bytes());
 }
 
-/// Whether the highest number has a place, and each number from 1 to it is committed or withdrawn.
-pub fn all_closed(status: &[u8]) -> bool {
-    let highest = highest(status);
-    highest <= HIGHEST_NUMBER && (1..=highest).all(|number| closed(status, number))
+/// The highest number handed out, if it has a place and each number from 1 to it is committed or
+/// withdrawn.
+pub fn highest_closed(status: &[u8]) -> Option<u32> {
+    let highest = u32::try_from(u64_at(status, TXN_ID)).ok()?;
+    let all_closed = || (1..=highest.into()).all(|number| closed(status, number));
+    (highest <= HIGHEST_NUMBER && all_closed()).then_some(highest)
 }
 
 /// 01 and 10 are the states whose two bits differ.

@@ -2,7 +2,7 @@
 
 use crate::bytes::put;
 use crate::chain::{Area, Place};
-use crate::page::{Kind, PAGE, TXN_ID};
+use crate::page::{Kind, PAGE, TXN_ID, pages_mut};
 
 /// The pages of data and undo that a call has touched, a bit for each: no area has more than 64.
 #[derive(Default)]
@@ -29,6 +29,7 @@ impl Touched {
     }
 }
 
+#[inline(always)]
 fn finish_area(kind: &Kind, area: &mut [u8], touched: u64, session: Option<u64>) {
     for page in (0..area.len() / PAGE).filter(|page| touched >> page & 1 == 1) {
         finish_page(kind, area, page * PAGE, session);
@@ -37,10 +38,9 @@ fn finish_area(kind: &Kind, area: &mut [u8], touched: u64, session: Option<u64>)
 
 /// The same for the one page in which `at` lies. Sweeping "leaves txn_id": then there is no
 /// session.
-#[inline]
+#[inline(always)]
 pub fn finish_page(kind: &Kind, area: &mut [u8], at: usize, session: Option<u64>) {
-    let start = at / PAGE * PAGE;
-    let page = &mut area[start..start + PAGE];
+    let page = &mut pages_mut(area)[at / PAGE];
     if let Some(number) = session {
         put(page, TXN_ID, number.to_le_bytes());
     }

@@ -17,7 +17,8 @@ struct Store {
 impl Store {
     fn formatted() -> Self {
         let [mut data, mut undo, mut status] = [(); 3].map(|()| vec![0xEE; 8192]);
-        let desk = plain::format(&mut data, &mut undo, &mut status).unwrap();
+        let mut desk = Desk::without_sessions(0);
+        plain::format(&mut data, &mut undo, &mut status, &mut desk).unwrap();
         Self { data, undo, status, desk }
     }
 

@@ -19,6 +19,9 @@ title-requires c κs = search needs
 format-requires : tie.Need-format-requires Inv-loop μ-loop
 format-requires c κs = search needs
 
+words-of-requires : tie.Need-words-of-requires Inv-loop μ-loop
+words-of-requires c κs = search needs
+
 loop-holds : tie.Need-loop-holds Inv-loop μ-loop
 loop-holds c = search needs
 
@@ -45,8 +48,8 @@ play-requires c κs = search needs
 
 add-i : tie.Need-add-i Inv-loop μ-loop
 add-i c =
-    let head = c .before .before .before .before .before .before .before .before .before .before .before .before in
-    let known = head .before .before .before .before .before .before .before .before .before .before .before .before .before .before in
+    let head = c .before .before .before .before .before .before .before .before .before .before .before .before .before in
+    let known = head .before .before .before .before .before .before .before .before .before .before .before .before .before .before .before in
     search (needs, head .loop-test .taken, known .shared-slice-known2 .given)
 
 loop-less : tie.Need-loop-less Inv-loop μ-loop
@@ -75,6 +78,7 @@ case-spec =
     μ-loop
     title-requires
     format-requires
+    words-of-requires
     loop-holds
     mul-letter
     shared-slice-read-letter

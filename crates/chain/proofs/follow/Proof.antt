@@ -1,11 +1,27 @@
--- `chain::follow` meets its contract: the tests of an entry are those of the definition. Assumes nothing.
+-- `chain::follow` meets its contract: the entry that is read is the one to which the pointer leads, and its tests are those of the
+-- definition. Assumes nothing.
 use borrow.Author.Needs.{needs}
-use mathlib.Core.Path.{sym, _∙_}
-use Rattle.pointer.proofs.PointerLaws.{leadOf-inside}
+use mathlib.Core.Path.{_≡_, sym, _∙_}
+use mathlib.Core.List.{List}
+use Prim.Native.Nat.{ℕ}
+use Rattle.pointer.proofs.PointerLaws.{leadOf-page}
+use Rattle.records.specs.Entry.{entryAt}
 use Rattle.chain.specs.Chain.{unfit}
-use Rattle.chain.proofs.Links.{link-end, link-astray, link-unfit, link-to}
+use Rattle.chain.proofs.Links.{link-room, link-read, link-end, link-astray, link-unfit, link-to}
 use Rattle.chain.proofs.follow.Statement.{statement}
 use Rattle.chain.proofs.follow.Tie as tie
+
+-- the area and the entry, where the place is known
+abbrev area : tie.After-place → List ℕ
+area c = c .before .before .before .before .before .before .args .undo .now
+
+abbrev number : tie.After-place → ℕ
+number c = c .before .before .lead2 .given .0 .0
+
+read : (c : tie.After-get-entry) → c .get-entry .result ≡ entryAt (number (c .before)) (area (c .before))
+read c =
+    let known = c .before .before .before in
+    link-read _ _ _ (known .before .before .lead .ensures) (known .lead2 .given .1) (c .before .place .ensures) (c .get-entry .ensures)
 
 lead-requires : tie.Need-lead-requires
 lead-requires c κs = search needs
@@ -19,10 +35,15 @@ enum-told-2 c = search needs
 enum-known-lead : tie.Need-enum-known-lead
 enum-known-lead c = search needs
 
-read-entry-requires : tie.Need-read-entry-requires
-read-entry-requires c κs =
+place-requires : tie.Need-place-requires
+place-requires c κs =
     let known = c .before in
-    leadOf-inside _ _ _ (sym (known .before .before .lead .ensures) ∙ known .lead2 .given .1)
+    leadOf-page _ _ _ (sym (known .before .before .lead .ensures) ∙ known .lead2 .given .1)
+
+get-entry-requires : tie.Need-get-entry-requires
+get-entry-requires c κs =
+    let known = c .before .before in
+    link-room (area c) _ _ (known .before .before .lead .ensures) (known .lead2 .given .1) (c .place .ensures)
 
 cast-if1 : tie.Need-cast-if1
 cast-if1 c = search needs
@@ -30,9 +51,9 @@ cast-if1 c = search needs
 returns : tie.Need-returns
 unfolding unfit
 returns c =
-    let read = c .before .before .before .before in
-    let known = read .before .before in
-    link-unfit _ _ _ (known .before .before .lead .ensures) _ (known .lead2 .given .1) (read .read-entry .ensures) (c .if1 .taken)
+    let got = c .before .before .before .before in
+    let known = got .before .before .before in
+    link-unfit _ _ _ (known .before .before .lead .ensures) _ (known .lead2 .given .1) (read got) (c .if1 .taken)
 
 returns-2 : tie.Need-returns-2
 returns-2 c = link-end _ _ _ (c .before .before .lead .ensures) (c .enum-told .given .1)
@@ -43,9 +64,9 @@ returns-3 c = link-astray _ _ _ (c .before .before .lead .ensures) (c .enum-told
 returns-4 : tie.Need-returns-4
 unfolding unfit
 returns-4 c =
-    let read = c .before .before .before .before in
-    let known = read .before .before in
-    link-to _ _ _ (known .before .before .lead .ensures) _ (known .lead2 .given .1) (read .read-entry .ensures) (c .if1 .left)
+    let got = c .before .before .before .before in
+    let known = got .before .before .before in
+    link-to _ _ _ (known .before .before .lead .ensures) _ (known .lead2 .given .1) (read got) (c .if1 .left)
 
 pub follow-spec : {M : Type 1} → statement M
 follow-spec =
@@ -55,7 +76,8 @@ follow-spec =
     enum-told
     enum-told-2
     enum-known-lead
-    read-entry-requires
+    place-requires
+    get-entry-requires
     cast-if1
     returns
     returns-2

@@ -4,7 +4,7 @@ use mathlib.Core.Path.{_≡_, sym, ap, _∙_}
 use mathlib.Core.Bool.{Bool}
 use Rattle.records.specs.declared.slot.Slot.{Slot}
 use Rattle.records.specs.Slot.{slotAt}
-use Rattle.desk.specs.declared.View.{View}
+use Rattle.desk.specs.View.{View}
 use Rattle.sight.specs.Sight.{viewOf}
 use Rattle.chain.specs.Walk.{stampOf, thereIn}
 use Rattle.chain.proofs.Walks.{there-found, walk-empty, walk-slot, walk-on}
@@ -15,7 +15,7 @@ use Rattle.chain.proofs.search.Tie as tie
 
 module _ (c : tie.After-read-slot) where
   abbrev start : tie.Start
-  start = c .before .before .before .before
+  start = c .before .before .before .before .before
 
   abbrev view : View
   view = viewOf (start .args .number) (start .args .statement) (start .args .list .now)

@@ -8,7 +8,7 @@ use Prim.Native.Nat.{suc, _≤_, _-_}
 use native.Mathlib.Omega.{arith}
 use Rattle.kind.specs.Kind.{entries}
 use Rattle.records.specs.declared.slot.Slot.{Slot}
-use Rattle.desk.specs.declared.View.{View}
+use Rattle.desk.specs.View.{View}
 use Rattle.sight.specs.Sight.{viewOf}
 use Rattle.chain.specs.declared.Link.{Link}
 use Rattle.chain.specs.declared.Link.the-variants.{To}
@@ -34,7 +34,7 @@ abbrev μ-loop : tie.MeasureT-loop
 
 module _ (c : tie.At-loop Inv-loop μ-loop) where
   abbrev start : tie.Start Inv-loop μ-loop
-  start = c .before .before .before .before
+  start = c .before .before .before .before .before
 
   abbrev view : View
   view = viewOf (start .args .number) (start .args .statement) (start .args .list .now)

@@ -35,7 +35,7 @@ loop-less c = search needs
 loop-again : tie.Need-loop-again Inv-loop μ-loop
 loop-again c =
     let head = c .before .before .before in
-    let places = head .before .args .places .now in (
+    let places = head .before .args .column .now in (
       omega arith,
       ⊎-elim
           (λ w. smallest-take (head .loop .low) places (head .loop .i) (omega arith) _ (w .1) (w .0 .taken) ∙ head .loop .inv .1)

@@ -1,25 +1,31 @@
 -- `freeing::cut_copy` meets its contract. Assumes nothing.
 use borrow.Author.Needs.{needs}
-use Rattle.freeing.proofs.Freeings.{cutCopy-stored}
+use mathlib.Core.Path.{refl}
+use Rattle.freeing.proofs.Tallies.{cutCopy-tallied}
 use Rattle.freeing.proofs.cut_copy.Statement.{statement}
 use Rattle.freeing.proofs.cut_copy.Tie as tie
 
 write-copy-requires : tie.Need-write-copy-requires
 write-copy-requires c κs = search needs
 
-div-recount : tie.Need-div-recount
-div-recount c = search needs
+div-due : tie.Need-div-due
+div-due c = search needs
 
-recount-requires : tie.Need-recount-requires
-recount-requires c κs = search needs
+slice-write-due : tie.Need-slice-write-due
+slice-write-due c = search needs
 
 same-length : tie.Need-same-length
 same-length c = search needs
 
+same-length-2 : tie.Need-same-length-2
+same-length-2 c = search needs
+
 returns : tie.Need-returns
 returns c =
-    let last = c .before .before in
-    cutCopy-stored _ _ _ (last .before .before .before .before .before .write-copy .ensures) (last .recount .ensures)
+    let wrote = c .before .before .before in
+    let start = wrote .before .before .before .before in
+    cutCopy-tallied _ _ _ refl (start .pre .0) (start .pre .1) _ (wrote .write-copy .ensures)
 
 pub cut-copy-spec : {M : Type 1} → statement M
-cut-copy-spec = tie.close (tie.spec write-copy-requires div-recount recount-requires same-length returns)
+cut-copy-spec =
+    tie.close (tie.spec write-copy-requires div-due slice-write-due same-length same-length-2 returns)

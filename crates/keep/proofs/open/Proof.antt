@@ -66,6 +66,9 @@ returns-2 c =
 add-fresh : tie.Need-add-fresh
 add-fresh c = let t = top (c .before .before) in let h = highest-storeRight _ _ _ (right c) in omega arith
 
+cast-fresh : tie.Need-cast-fresh
+cast-fresh c = let t = top (c .before .before) in let h = highest-storeRight _ _ _ (right c) in omega arith
+
 fresh-requires : tie.Need-fresh-requires
 fresh-requires c κs = search needs
 
@@ -87,5 +90,6 @@ open-spec =
     refused-requires-2
     returns-2
     add-fresh
+    cast-fresh
     fresh-requires
     returns-3)

@@ -5,6 +5,7 @@ use lib.ListN.{length}
 use borrow.Author.Needs.{needs}
 use borrow.Author.Tests.{not-true, not-false}
 use Rattle.desk.specs.Sound.{sound}
+use Rattle.words.specs.Words.{deskIn}
 use Rattle.kind.specs.Kind.{lengthsOk}
 use Rattle.keep.specs.Keep.{sealed}
 use Rattle.kind.proofs.Lengths.{areas-eq}
@@ -24,9 +25,8 @@ good : (c : tie.Else1) → lengths (c .before .before .before .before .before) �
 good c = sym (c .before .lengths-ok .ensures) ∙ not-false _ (c .if1 .left)
 
 -- where the desk was found sound
-sound-desk : (c : tie.Else2) → sound (c .before .before .before .before .before .before .before .before .before .before .before .args .t4) ≡ true
-unfolding sound
-sound-desk c = sym (c .before .columns-sound .ensures) ∙ not-false _ (c .if2 .left)
+sound-desk : (c : tie.Else2) → sound (deskIn (c .before .before .before .before .before .before .before .before .args .desk .now)) ≡ true
+sound-desk c = sym (c .before .is-sound .ensures) ∙ not-false _ (c .if2 .left)
 
 lengths-ok-requires : tie.Need-lengths-ok-requires
 lengths-ok-requires c κs = search needs
@@ -34,25 +34,18 @@ lengths-ok-requires c κs = search needs
 returns : tie.Need-returns
 returns c = does-case (seal-1 _ _ _ (bad c) _) refl refl
 
-columns-sound-requires : tie.Need-columns-sound-requires
-columns-sound-requires c κs = search needs
+is-sound-requires : tie.Need-is-sound-requires
+is-sound-requires c κs = search needs
 
 returns-2 : tie.Need-returns-2
-unfolding sound
-returns-2 c =
-    let asked = c .before in
-    let ok = asked .before .before .before .before .before in
-    does-case (seal-2 _ _ _ (good ok) _ (sym (asked .columns-sound .ensures) ∙ not-true _ (c .if2 .taken))) refl refl
+returns-2 c = does-case (seal-2 _ _ _ (good (c .before .before .before)) _ (sym (c .before .is-sound .ensures) ∙ not-true _ (c .if2 .taken))) refl refl
 
 open-count-requires : tie.Need-open-count-requires
 open-count-requires c κs = search needs
 
 returns-3 : tie.Need-returns-3
 returns-3 c =
-    let asked = c .before in
-    let found = asked .before .before .before in
-    let ok = found .before .before .before .before .before .before in
-    does-case (seal-15 _ _ _ (good ok) _ (sound-desk found) (λ e. c .if3 .taken (asked .open-count .ensures .0 ∙ e))) refl refl
+    does-case (seal-15 _ _ _ (good (c .before .before .before .before .before .before)) _ (sound-desk (c .before .before .before)) (λ e. c .if3 .taken (c .before .open-count .ensures .0 ∙ e))) refl refl
 
 seal-area-requires : tie.Need-seal-area-requires
 seal-area-requires c κs = search needs
@@ -75,14 +68,11 @@ same-length-3 c = search needs
 returns-4 : tie.Need-returns-4
 unfolding sealed
 returns-4 c =
+    let first = c .before .before .before .before .before .before .before .before .before .before in
+    let second = c .before .before .before .before .before .before in
     let third = c .before .before in
-    let second = third .before .before .before .before in
-    let first = second .before .before .before .before in
     let closed = first .before .before in
-    let asked = closed .before in
-    let found = asked .before .before .before in
-    let ok = found .before .before .before .before .before .before in
-    does-case (seal-0 _ _ _ (good ok) _ (sound-desk found) (sym (asked .open-count .ensures .0) ∙ closed .if3 .left))
+    does-case (seal-0 _ _ _ (good (c .before .before .before .before .before .before .before .before .before .before .before .before .before .before .before .before .before .before)) _ (sound-desk (c .before .before .before .before .before .before .before .before .before .before .before .before .before .before .before)) (sym (c .before .before .before .before .before .before .before .before .before .before .before .before .before .open-count .ensures .0) ∙ closed .if3 .left))
     refl
     (areas-eq (first .seal-area .ensures) (second .seal-area2 .ensures) (third .seal-area3 .ensures))
 
@@ -92,7 +82,7 @@ seal-spec =
     (tie.spec
     lengths-ok-requires
     returns
-    columns-sound-requires
+    is-sound-requires
     returns-2
     open-count-requires
     returns-3

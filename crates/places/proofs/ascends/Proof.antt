@@ -1,11 +1,11 @@
 -- `places::ascends` meets its contract. The loop's invariant: the places passed are placed, and `low` is what a number here has to
 -- exceed. Assumes nothing.
-use mathlib.Core.Path.{_≡_, sym}
-use mathlib.Core.Logic.{⊎-elim}
+use mathlib.Core.Path.{_≡_, refl, sym, _∙_}
 use Prim.Native.Nat.{_≤_, _-_}
 use native.Mathlib.Omega.{arith}
+use Rattle.places.proofs.Places.{Run, run-start, run-number, run-fails}
+use Rattle.places.proofs.Runs.{behind}
 use borrow.Author.Needs.{needs}
-use Rattle.places.proofs.Places.{Run, run-start, run-unused, run-number, run-fails}
 use Rattle.places.proofs.ascends.Statement.{statement}
 use Rattle.places.proofs.ascends.Tie as tie
 
@@ -27,8 +27,23 @@ mul-x c = search needs
 shared-slice-read-x : tie.Need-shared-slice-read-x Inv-loop μ-loop
 shared-slice-read-x c = search needs
 
+add-unused : tie.Need-add-unused Inv-loop μ-loop
+add-unused c = search needs
+
+add-unused-2 : tie.Need-add-unused-2 Inv-loop μ-loop
+add-unused-2 c = search needs
+
+unused-requires : tie.Need-unused-requires Inv-loop μ-loop
+unused-requires c κs = search needs
+
 returns : tie.Need-returns Inv-loop μ-loop
 returns c =
+    let found = c .before in
+    let head = found .before .before .before in
+    c .unused .ensures ∙ sym (behind _ _ _ _ (head .loop .inv .1 .passed) (found .if1 .taken) _ (omega arith))
+
+returns-2 : tie.Need-returns-2 Inv-loop μ-loop
+returns-2 c =
     let head = c .before .before .before .before in
     sym (run-fails _ _ _ (head .loop .inv .1) _ (omega arith) (c .before .if1 .left) (c .if2 .left))
 
@@ -40,18 +55,13 @@ loop-less c = search needs
 
 loop-again : tie.Need-loop-again Inv-loop μ-loop
 loop-again c =
-    let head = c .before .before .before in (
-      omega arith,
-      ⊎-elim
-          (λ w. run-unused _ _ _ (head .loop .inv .1) (w .0 .taken) (w .1))
-          (λ w. run-number _ _ _ (head .loop .inv .1) (w .0 .left) (w .1 .taken) (w .2))
-          (c .if1 .came),
-    )
+    let head = c .before .before .before .before in
+    (omega arith, run-number _ _ _ (head .loop .inv .1) (c .before .if1 .left) (c .if2 .taken) refl)
 
-returns-2 : tie.Need-returns-2 Inv-loop μ-loop
-returns-2 c =
+returns-3 : tie.Need-returns-3 Inv-loop μ-loop
+returns-3 c =
     let head = c .before in
-    let all : head .loop .i ≡ head .before .args .n = omega arith in
+    let all : head .loop .i ≡ head .before .before .args .n = omega arith in
     sym (rw (← all) (head .loop .inv .1 .passed))
 
 pub ascends-spec : {M : Type 1} → statement M
@@ -64,8 +74,12 @@ ascends-spec =
     add-x
     mul-x
     shared-slice-read-x
+    add-unused
+    add-unused-2
+    unused-requires
     returns
+    returns-2
     add-i
     loop-less
     loop-again
-    returns-2)
+    returns-3)

@@ -31,8 +31,8 @@ loop-holds c = (omega arith, refl)
 mul-if1 : tie.Need-mul-if1 Inv-loop μ-loop
 mul-if1 c = search needs
 
-element-copy-out-if1 : tie.Need-element-copy-out-if1 Inv-loop μ-loop
-element-copy-out-if1 c = search needs
+shared-slice-read-if1 : tie.Need-shared-slice-read-if1 Inv-loop μ-loop
+shared-slice-read-if1 c = search needs
 
 add-n : tie.Need-add-n Inv-loop μ-loop
 add-n c = omega (arith, count-le (used (c .before .before .before .before .args .numbers .now)) (c .before .before .before .loop .k))
@@ -64,4 +64,4 @@ returns c =
 pub open-count-spec : {M : Type 1} → statement M
 open-count-spec =
     tie.close
-    (tie.spec Inv-loop μ-loop loop-holds mul-if1 element-copy-out-if1 add-n add-k loop-less loop-again returns)
+    (tie.spec Inv-loop μ-loop loop-holds mul-if1 shared-slice-read-if1 add-n add-k loop-less loop-again returns)

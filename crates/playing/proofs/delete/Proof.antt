@@ -1,13 +1,17 @@
--- `playing::delete` meets its contract: the call and its line. Assumes nothing.
+-- `playing::delete` meets its contract: the call on the desk's words, and its line. Assumes nothing.
 use Prim.Native.Nat.{ℕ}
-use mathlib.Core.Path.{refl, ap, _∙_}
+use mathlib.Core.Path.{refl, sym, ap, _∙_}
 use mathlib.Core.List.{List}
+use Rattle.desk.specs.declared.Desk.{Desk}
 use Rattle.kind.specs.Areas.{areas}
 use Rattle.playing.specs.Playing.{deleteTurn}
-use Rattle.playing.proofs.Playings.{plays}
+use Rattle.playing.proofs.Playings.{plays, on-desk}
 use borrow.Author.Needs.{needs}
 use Rattle.playing.proofs.delete.Statement.{statement}
 use Rattle.playing.proofs.delete.Tie as tie
+
+words-of-requires : tie.Need-words-of-requires
+words-of-requires c κs = search needs
 
 delete-requires : tie.Need-delete-requires
 delete-requires c κs = search needs
@@ -27,10 +31,20 @@ same-length-2 c = search needs
 returns : tie.Need-returns
 unfolding deleteTurn
 returns c =
+    let start = c .before .before .before .before .before .before .before .before .before .before .before .before .before .before .before .args in
+    let came = areas (start .«data» .now) (start .undo .now) (start .status .now) in
+    let same = c .before .before .before .before .before .before .before .before .before .before .words-of .ensures .1 in
     let done = c .before .before .before .before .before .before .before .delete .ensures in
-    plays _ _ _ _ _ _ _ (c .before .before .before .before .code .ensures ∙ (ap (λ (y : ℕ). y) (done .answers))) refl refl (ap (λ (d : List ℕ). areas d (c .before .before .before .before .before .before .before .before .before .before .before .before .before .args .undo .now) (c .before .before .before .before .before .before .before .before .before .before .before .before .before .args .status .now)) (done .leaves)) (c .before .before .plain .ensures)
+    on-desk (λ (d : Desk). deleteTurn came d (start .session) (start .row)) same (plays _ _ _ _ _ _ _ (c .before .before .before .before .code .ensures ∙ done .answers) refl (sym same) (ap (λ (d : List ℕ). areas d (start .undo .now) (start .status .now)) (done .leaves)) (c .before .before .plain .ensures))
 
 pub delete-spec : {M : Type 1} → statement M
 delete-spec =
     tie.close
-    (tie.spec delete-requires code-requires plain-requires same-length same-length-2 returns)
+    (tie.spec
+    words-of-requires
+    delete-requires
+    code-requires
+    plain-requires
+    same-length
+    same-length-2
+    returns)

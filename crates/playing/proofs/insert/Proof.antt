@@ -1,13 +1,17 @@
--- `playing::insert` meets its contract: the call and its line. Assumes nothing.
+-- `playing::insert` meets its contract: the call on the desk's words, and its line. Assumes nothing.
 use Prim.Native.Nat.{ℕ}
-use mathlib.Core.Path.{refl, ap, _∙_}
+use mathlib.Core.Path.{sym, ap, _∙_}
 use mathlib.Core.List.{List}
+use Rattle.desk.specs.declared.Desk.{Desk}
 use Rattle.kind.specs.Areas.{areas}
 use Rattle.playing.specs.Playing.{number, insertTurn}
-use Rattle.playing.proofs.Playings.{plays}
+use Rattle.playing.proofs.Playings.{plays, on-desk}
 use borrow.Author.Needs.{needs}
 use Rattle.playing.proofs.insert.Statement.{statement}
 use Rattle.playing.proofs.insert.Tie as tie
+
+words-of-requires : tie.Need-words-of-requires
+words-of-requires c κs = search needs
 
 insert-requires : tie.Need-insert-requires
 insert-requires c κs = search needs
@@ -27,10 +31,20 @@ same-length-2 c = search needs
 returns : tie.Need-returns
 unfolding insertTurn
 returns c =
+    let start = c .before .before .before .before .before .before .before .before .before .before .before .before .before .before .before .before .args in
+    let came = areas (start .«data» .now) (start .undo .now) (start .status .now) in
+    let same = c .before .before .before .before .before .before .before .before .before .before .words-of .ensures .1 in
     let done = c .before .before .before .before .before .before .before .insert .ensures in
-    plays _ _ _ _ _ _ _ (c .before .before .before .before .code .ensures ∙ (ap (λ (y : ℕ × ℕ). y .0) (done .answers))) (ap (λ (y : ℕ × ℕ). number (y .1)) (done .answers)) refl (ap (λ (d : List ℕ). areas d (c .before .before .before .before .before .before .before .before .before .before .before .before .before .before .args .undo .now) (c .before .before .before .before .before .before .before .before .before .before .before .before .before .before .args .status .now)) (done .leaves)) (c .before .before .numbered .ensures)
+    on-desk (λ (d : Desk). insertTurn came d (start .session) (start .body .now)) same (plays _ _ _ _ _ _ _ (c .before .before .before .before .code .ensures ∙ ap (λ (y : ℕ × ℕ). y .0) (done .answers)) (ap (λ (y : ℕ × ℕ). number (y .1)) (done .answers)) (sym same) (ap (λ (d : List ℕ). areas d (start .undo .now) (start .status .now)) (done .leaves)) (c .before .before .numbered .ensures))
 
 pub insert-spec : {M : Type 1} → statement M
 insert-spec =
     tie.close
-    (tie.spec insert-requires code-requires numbered-requires same-length same-length-2 returns)
+    (tie.spec
+    words-of-requires
+    insert-requires
+    code-requires
+    numbered-requires
+    same-length
+    same-length-2
+    returns)

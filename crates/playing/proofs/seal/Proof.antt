@@ -1,11 +1,14 @@
--- `playing::seal` meets its contract: the call and its line. Assumes nothing.
-use Prim.Native.Nat.{ℕ}
-use mathlib.Core.Path.{refl, ap, _∙_}
+-- `playing::seal` meets its contract: the call on the desk's words, and its line. Assumes nothing.
+use mathlib.Core.Path.{refl, sym, _∙_}
+use Rattle.kind.specs.Areas.{areas}
 use Rattle.playing.specs.Playing.{sealTurn}
-use Rattle.playing.proofs.Playings.{plays}
+use Rattle.playing.proofs.Playings.{plays, on-desk}
 use borrow.Author.Needs.{needs}
 use Rattle.playing.proofs.seal.Statement.{statement}
 use Rattle.playing.proofs.seal.Tie as tie
+
+words-of-requires : tie.Need-words-of-requires
+words-of-requires c κs = search needs
 
 seal-requires : tie.Need-seal-requires
 seal-requires c κs = search needs
@@ -31,13 +34,17 @@ same-length-4 c = search needs
 returns : tie.Need-returns
 unfolding sealTurn
 returns c =
+    let start = c .before .before .before .before .before .before .before .before .before .before .before .before .before .before .before .before .before .before .before .before .before .args in
+    let came = areas (start .«data» .now) (start .undo .now) (start .status .now) in
+    let same = c .before .before .before .before .before .before .before .before .before .before .before .before .before .before .before .before .words-of .ensures .1 in
     let done = c .before .before .before .before .before .before .before .before .before .before .before .seal .ensures in
-    plays _ _ _ _ _ _ _ (c .before .before .before .before .code .ensures ∙ (ap (λ (y : ℕ). y) (done .answers))) refl refl (done .leaves) (c .before .before .plain .ensures)
+    on-desk (sealTurn came) same (plays _ _ _ _ _ _ _ (c .before .before .before .before .code .ensures ∙ done .answers) refl (sym same) (done .leaves) (c .before .before .plain .ensures))
 
 pub seal-spec : {M : Type 1} → statement M
 seal-spec =
     tie.close
     (tie.spec
+    words-of-requires
     seal-requires
     code-requires
     plain-requires

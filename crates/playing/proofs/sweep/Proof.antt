@@ -1,13 +1,18 @@
--- `playing::sweep` meets its contract: the call and its line. Assumes nothing.
+-- `playing::sweep` meets its contract: the call on the desk's words, and its line. Assumes nothing.
 use Prim.Native.Nat.{ℕ}
-use mathlib.Core.Path.{refl, ap, _∙_}
+use mathlib.Core.Path.{sym, ap, _∙_}
 use mathlib.Core.List.{[], _∷_}
+use Rattle.desk.specs.declared.Desk.{Desk}
 use Rattle.numeral.specs.Numeral.{numeralOf}
+use Rattle.kind.specs.Areas.{areas}
 use Rattle.playing.specs.Playing.{sweepTurn}
-use Rattle.playing.proofs.Playings.{plays}
+use Rattle.playing.proofs.Playings.{plays, on-desk}
 use borrow.Author.Needs.{needs}
 use Rattle.playing.proofs.sweep.Statement.{statement}
 use Rattle.playing.proofs.sweep.Tie as tie
+
+words-of-requires : tie.Need-words-of-requires
+words-of-requires c κs = search needs
 
 sweep-requires : tie.Need-sweep-requires
 sweep-requires c κs = search needs
@@ -30,13 +35,17 @@ same-length-3 c = search needs
 returns : tie.Need-returns
 unfolding sweepTurn
 returns c =
+    let start = c .before .before .before .before .before .before .before .before .before .before .before .before .before .before .before .before .before .before .args in
+    let came = areas (start .«data» .now) (start .undo .now) (start .status .now) in
+    let same = c .before .before .before .before .before .before .before .before .before .before .before .before .before .words-of .ensures .1 in
     let done = c .before .before .before .before .before .before .before .before .before .sweep .ensures in
-    plays _ _ _ _ _ _ _ (c .before .before .before .before .code .ensures ∙ (ap (λ (y : ℕ × ℕ × ℕ). y .0) (done .answers))) (ap (λ (y : ℕ × ℕ × ℕ). numeralOf (y .1) ∷ numeralOf (y .2) ∷ []) (done .answers)) refl (done .leaves) (c .before .before .paired .ensures)
+    on-desk (λ (d : Desk). sweepTurn came d (start .first) (start .quota)) same (plays _ _ _ _ _ _ _ (c .before .before .before .before .code .ensures ∙ ap (λ (y : ℕ × ℕ × ℕ). y .0) (done .answers)) (ap (λ (y : ℕ × ℕ × ℕ). numeralOf (y .1) ∷ numeralOf (y .2) ∷ []) (done .answers)) (sym same) (done .leaves) (c .before .before .paired .ensures))
 
 pub sweep-spec : {M : Type 1} → statement M
 sweep-spec =
     tie.close
     (tie.spec
+    words-of-requires
     sweep-requires
     code-requires
     paired-requires

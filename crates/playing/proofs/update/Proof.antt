@@ -1,11 +1,15 @@
--- `playing::update` meets its contract: the call and its line. Assumes nothing.
-use Prim.Native.Nat.{ℕ}
-use mathlib.Core.Path.{refl, ap, _∙_}
+-- `playing::update` meets its contract: the call on the desk's words, and its line. Assumes nothing.
+use mathlib.Core.Path.{refl, sym, _∙_}
+use Rattle.desk.specs.declared.Desk.{Desk}
+use Rattle.kind.specs.Areas.{areas}
 use Rattle.playing.specs.Playing.{updateTurn}
-use Rattle.playing.proofs.Playings.{plays}
+use Rattle.playing.proofs.Playings.{plays, on-desk}
 use borrow.Author.Needs.{needs}
 use Rattle.playing.proofs.update.Statement.{statement}
 use Rattle.playing.proofs.update.Tie as tie
+
+words-of-requires : tie.Need-words-of-requires
+words-of-requires c κs = search needs
 
 update-requires : tie.Need-update-requires
 update-requires c κs = search needs
@@ -28,13 +32,17 @@ same-length-3 c = search needs
 returns : tie.Need-returns
 unfolding updateTurn
 returns c =
+    let start = c .before .before .before .before .before .before .before .before .before .before .before .before .before .before .before .before .before .before .before .args in
+    let came = areas (start .«data» .now) (start .undo .now) (start .status .now) in
+    let same = c .before .before .before .before .before .before .before .before .before .before .before .before .before .words-of .ensures .1 in
     let done = c .before .before .before .before .before .before .before .before .before .update .ensures in
-    plays _ _ _ _ _ _ _ (c .before .before .before .before .code .ensures ∙ (ap (λ (y : ℕ). y) (done .answers))) refl refl (done .leaves) (c .before .before .plain .ensures)
+    on-desk (λ (d : Desk). updateTurn came d (start .session) (start .row) (start .body .now)) same (plays _ _ _ _ _ _ _ (c .before .before .before .before .code .ensures ∙ done .answers) refl (sym same) (done .leaves) (c .before .before .plain .ensures))
 
 pub update-spec : {M : Type 1} → statement M
 update-spec =
     tie.close
     (tie.spec
+    words-of-requires
     update-requires
     code-requires
     plain-requires

@@ -1,15 +1,22 @@
--- `playing::withdraw` meets its contract: the call and its line. Assumes nothing.
+-- `playing::withdraw` meets its contract: the call on the desk's words, the desk that they say then, and its line. Assumes nothing.
 use Prim.Native.Nat.{ℕ}
 use mathlib.Core.Path.{refl, ap, _∙_}
 use Rattle.desk.specs.declared.Desk.{Desk}
+use Rattle.kind.specs.Areas.{areas}
 use Rattle.playing.specs.Playing.{withdrawTurn}
-use Rattle.playing.proofs.Playings.{plays}
+use Rattle.playing.proofs.Playings.{plays, on-desk}
 use borrow.Author.Needs.{needs}
 use Rattle.playing.proofs.withdraw.Statement.{statement}
 use Rattle.playing.proofs.withdraw.Tie as tie
 
+words-of-requires : tie.Need-words-of-requires
+words-of-requires c κs = search needs
+
 withdraw-requires : tie.Need-withdraw-requires
 withdraw-requires c κs = search needs
+
+desk-left-requires : tie.Need-desk-left-requires
+desk-left-requires c κs = search needs
 
 code-requires : tie.Need-code-requires
 code-requires c κs = search needs
@@ -32,14 +39,18 @@ same-length-4 c = search needs
 returns : tie.Need-returns
 unfolding withdrawTurn
 returns c =
-    let done = c .before .before .before .before .before .before .before .before .before .before .before .before .withdraw .ensures in
-    plays _ _ _ _ _ _ _ (c .before .before .before .before .code .ensures ∙ (ap (λ (y : ℕ × Desk). y .0) (done .answers))) refl (ap (λ (y : ℕ × Desk). y .1) (done .answers)) (done .leaves) (c .before .before .plain .ensures)
+    let start = c .before .before .before .before .before .before .before .before .before .before .before .before .before .before .before .before .before .before .before .before .before .before .before .args in
+    let came = areas (start .«data» .now) (start .undo .now) (start .status .now) in
+    let done = c .before .before .before .before .before .before .before .before .before .before .before .before .before .withdraw .ensures .0 in
+    on-desk (λ (d : Desk). withdrawTurn came d (start .session)) (c .before .before .before .before .before .before .before .before .before .before .before .before .before .before .before .before .before .before .words-of .ensures .1) (plays _ _ _ _ _ _ _ (c .before .before .before .before .code .ensures ∙ ap (λ (y : ℕ × Desk). y .0) (done .answers)) refl (c .before .before .before .before .before .desk-left .ensures ∙ ap (λ (y : ℕ × Desk). y .1) (done .answers)) (done .leaves) (c .before .before .plain .ensures))
 
 pub withdraw-spec : {M : Type 1} → statement M
 withdraw-spec =
     tie.close
     (tie.spec
+    words-of-requires
     withdraw-requires
+    desk-left-requires
     code-requires
     plain-requires
     same-length

@@ -1,6 +1,7 @@
 -- `rows::delete` meets its contract: by what admission says, then by what is asked of the row. Assumes nothing.
 use mathlib.Core.Path.{refl, sym, _∙_}
 use Rattle.ground.proofs.Once.{does-case}
+use Rattle.words.specs.Words.{deskIn}
 use Rattle.admit.proofs.Admissions.{Admits, admits, admits-place, admits-status}
 use Rattle.rows.proofs.Calls.{write-inside, delete-refused, delete-no, delete-0}
 use borrow.Author.Needs.{needs}
@@ -9,8 +10,8 @@ use Rattle.rows.proofs.delete.Tie as tie
 
 -- the session was admitted, at the place that admission gave
 admitted : (c : tie.After-known-told2)
-    → let start = c .before .before .before .before .before .before .before .before .before .before .before .args in
-    Admits (start .«data» .now) (start .undo .now) (start .status .now) (start .t4) (start .session) (c .before .k .given .0 .0)
+    → let start = c .before .before .before .before .before .before .before .before .args in
+    Admits (start .«data» .now) (start .undo .now) (start .status .now) (deskIn (start .desk .now)) (start .session) (c .before .k .given .0 .0)
 admitted c = admits _ _ _ _ _ _ (sym (c .before .before .before .admit .ensures) ∙ c .before .k .given .1)
 
 admit-requires : tie.Need-admit-requires
@@ -25,11 +26,14 @@ returns c = does-case (delete-refused _ _ _ _ _ _ _ (sym (c .before .before .bef
 enum-known-k : tie.Need-enum-known-k
 enum-known-k c = search needs
 
-view-requires : tie.Need-view-requires
-view-requires c κs = admits-place _ _ _ _ _ _ (admitted c)
+statement-requires : tie.Need-statement-requires
+statement-requires c κs = (search needs, admits-place _ _ _ _ _ _ (admitted (c .before)))
+
+list-requires : tie.Need-list-requires
+list-requires c κs = (search needs, admits-place _ _ _ _ _ _ (admitted (c .before .before .before)))
 
 may-write-requires : tie.Need-may-write-requires
-may-write-requires c κs = admits-status _ _ _ _ _ _ (admitted (c .before .before .before .before))
+may-write-requires c κs = admits-status _ _ _ _ _ _ (admitted (c .before .before .before .before .before))
 
 code-requires : tie.Need-code-requires
 code-requires c κs = search needs
@@ -39,33 +43,23 @@ same-length c = search needs
 
 returns-2 : tie.Need-returns-2
 returns-2 c =
-    let asked = c .before .before in
-    let view = asked .before .before .before .before in
     does-case
-    (delete-no _ _ _ _ _ _ _ (admitted (view .before)) (view .view .ensures) (asked .may-write .ensures) (λ e. c .if1 .taken (c .before .code .ensures ∙ e)))
+    (delete-no _ _ _ _ _ _ _ (admitted (c .before .before .before .before .before .before .before .before)) (c .before .before .before .before .before .before .statement .ensures) (c .before .before .before .before .list .ensures) (c .before .before .may-write .ensures) (λ e. c .if1 .taken (c .before .code .ensures ∙ e)))
     refl
     refl
 
 delete-at-requires : tie.Need-delete-at-requires
-delete-at-requires c κs =
-    let free = c .before in
-    let asked = free .before .before in
-    let view = asked .before .before .before .before in
-    write-inside _ _ _ _ _ _ (admitted (view .before)) _ (view .view .ensures) (asked .may-write .ensures) (sym (free .before .code .ensures) ∙ free .if1 .left)
+delete-at-requires c κs = write-inside _ _ _ _ _ (c .before .before .before .may-write .ensures) (sym (c .before .before .code .ensures) ∙ c .before .if1 .left)
 
 same-length-2 : tie.Need-same-length-2
 same-length-2 c = search needs
 
 returns-3 : tie.Need-returns-3
 returns-3 c =
-    let put = c .before .before in
-    let free = put .before .before in
-    let asked = free .before .before in
-    let view = asked .before .before .before .before in
     does-case
-    (delete-0 _ _ _ _ _ _ _ (admitted (view .before)) (view .view .ensures) (asked .may-write .ensures) (sym (free .before .code .ensures) ∙ free .if1 .left))
+    (delete-0 _ _ _ _ _ _ _ (admitted (c .before .before .before .before .before .before .before .before .before .before .before .before)) (c .before .before .before .before .before .before .before .before .before .before .statement .ensures) (c .before .before .before .before .before .before .before .before .list .ensures) (c .before .before .before .before .before .before .may-write .ensures) (sym (c .before .before .before .before .before .code .ensures) ∙ c .before .before .before .before .if1 .left))
     refl
-    (put .delete-at .ensures)
+    (c .before .before .delete-at .ensures)
 
 pub delete-spec : {M : Type 1} → statement M
 delete-spec =
@@ -75,7 +69,8 @@ delete-spec =
     enum-known-answer
     returns
     enum-known-k
-    view-requires
+    statement-requires
+    list-requires
     may-write-requires
     code-requires
     same-length

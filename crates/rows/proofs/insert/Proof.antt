@@ -2,6 +2,7 @@
 use mathlib.Core.Path.{refl, sym, _∙_}
 use native.Mathlib.Omega.{arith}
 use Rattle.ground.proofs.Once.{does-case}
+use Rattle.words.specs.Words.{deskIn}
 use Rattle.admit.proofs.Admissions.{Admits, admits, admits-place, admits-lent}
 use Rattle.rows.proofs.Calls.{insert-inside, insert-refused, insert-5, insert-11, insert-0}
 use borrow.Author.Needs.{needs}
@@ -10,8 +11,8 @@ use Rattle.rows.proofs.insert.Tie as tie
 
 -- the session was admitted, at the place that admission gave
 admitted : (c : tie.After-known-told2)
-    → let start = c .before .before .before .before .before .before .before .before .before .before .before .before .args in
-    Admits (start .«data» .now) (start .undo .now) (start .status .now) (start .t4) (start .session) (c .before .k .given .0 .0)
+    → let start = c .before .before .before .before .before .before .before .before .before .args in
+    Admits (start .«data» .now) (start .undo .now) (start .status .now) (deskIn (start .desk .now)) (start .session) (c .before .k .given .0 .0)
 admitted c = admits _ _ _ _ _ _ (sym (c .before .before .before .admit .ensures) ∙ c .before .k .given .1)
 
 admit-requires : tie.Need-admit-requires
@@ -24,9 +25,7 @@ unmade-requires : tie.Need-unmade-requires
 unmade-requires c κs = search needs
 
 returns : tie.Need-returns
-returns c =
-    let told = c .before .before in
-    does-case (insert-refused _ _ _ _ _ _ _ (sym (told .before .before .admit .ensures) ∙ told .answer .given .1)) (c .unmade .ensures) refl
+returns c = does-case (insert-refused _ _ _ _ _ _ _ (sym (c .before .before .before .before .admit .ensures) ∙ c .before .before .answer .given .1)) (c .unmade .ensures) refl
 
 enum-known-k : tie.Need-enum-known-k
 enum-known-k c = search needs
@@ -35,15 +34,13 @@ unmade-requires-2 : tie.Need-unmade-requires-2
 unmade-requires-2 c κs = search needs
 
 returns-2 : tie.Need-returns-2
-returns-2 c =
-    let short = c .before in
-    does-case (insert-5 _ _ _ _ _ _ _ (admitted (short .before)) (short .if1 .taken)) (c .unmade2 .ensures) refl
+returns-2 c = does-case (insert-5 _ _ _ _ _ _ _ (admitted (c .before .before)) (c .before .if1 .taken)) (c .unmade2 .ensures) refl
 
 lowest-empty-requires : tie.Need-lowest-empty-requires
 lowest-empty-requires c κs = let few = admits-lent _ _ _ _ _ _ (admitted (c .before .before)) .inData .few in omega (arith, few)
 
 mul-if2 : tie.Need-mul-if2
-mul-if2 c = search needs
+mul-if2 c = let few = admits-lent _ _ _ _ _ _ (admitted (c .before .before .before .before)) .inData .few in search (needs, few)
 
 unmade-requires-3 : tie.Need-unmade-requires-3
 unmade-requires-3 c κs = search needs
@@ -52,41 +49,21 @@ same-length : tie.Need-same-length
 same-length c = search needs
 
 returns-3 : tie.Need-returns-3
-returns-3 c =
-    let full = c .before in
-    let found = full .before .before in
-    let long = found .before .before in
-    does-case
-    (insert-11 _ _ _ _ _ _ _ (admitted (long .before)) (long .if1 .left) (found .lowest-empty .ensures) (full .if2 .taken))
-    (c .unmade3 .ensures)
-    refl
+returns-3 c = does-case (insert-11 _ _ _ _ _ _ _ (admitted (c .before .before .before .before .before .before)) (c .before .before .before .before .before .if1 .left) (c .before .before .before .lowest-empty .ensures) (c .before .if2 .taken)) (c .unmade3 .ensures) refl
 
-mul-insert-at : tie.Need-mul-insert-at
-mul-insert-at c =
-    let k = admits-place _ _ _ _ _ _ (admitted (c .before .before .before .before .before .before)) in
-    search (needs, k)
-
-element-copy-out-insert-at : tie.Need-element-copy-out-insert-at
-element-copy-out-insert-at c = admits-place _ _ _ _ _ _ (admitted (c .before .before .before .before .before .before))
+statement-requires : tie.Need-statement-requires
+statement-requires c κs = (search needs, admits-place _ _ _ _ _ _ (admitted (c .before .before .before .before .before .before .before)))
 
 insert-at-requires : tie.Need-insert-at-requires
-insert-at-requires c κs =
-    let full = c .before .before in
-    let found = full .before .before in
-    let long = found .before .before in
-    (insert-inside _ (found .lowest-empty .ensures) (full .if2 .left), long .if1 .left)
+insert-at-requires c κs = (insert-inside _ (c .before .before .before .before .before .lowest-empty .ensures) (c .before .before .before .if2 .left), c .before .before .before .before .before .before .before .if1 .left)
 
 same-length-2 : tie.Need-same-length-2
 same-length-2 c = search needs
 
 returns-4 : tie.Need-returns-4
 returns-4 c =
-    let put = c .before .before in
-    let full = put .before .before .before in
-    let found = full .before .before in
-    let long = found .before .before in
     does-case
-    (insert-0 _ _ _ _ _ _ _ (admitted (long .before)) (long .if1 .left) (found .lowest-empty .ensures) (full .if2 .left) (put .insert-at .ensures))
+    (insert-0 _ _ _ _ _ _ _ (admitted (c .before .before .before .before .before .before .before .before .before .before .before)) (c .before .before .before .before .before .before .before .before .before .before .if1 .left) (c .before .before .before .before .before .before .before .before .lowest-empty .ensures) (c .before .before .before .before .before .before .if2 .left) (c .before .before .before .statement .ensures) (c .before .before .insert-at .ensures))
     refl
     refl
 
@@ -106,8 +83,7 @@ insert-spec =
     unmade-requires-3
     same-length
     returns-3
-    mul-insert-at
-    element-copy-out-insert-at
+    statement-requires
     insert-at-requires
     same-length-2
     returns-4)

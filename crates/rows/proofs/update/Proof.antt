@@ -4,6 +4,7 @@ use mathlib.Core.Path.{refl, sym, _∙_}
 use native.Mathlib.Omega.{arith}
 use Rattle.ground.proofs.Once.{does-case}
 use lib.ListN.{length}
+use Rattle.words.specs.Words.{deskIn}
 use Rattle.kind.proofs.Lengths.{AllLent, areas-eq}
 use Rattle.admit.proofs.Admissions.{Admits, admits, admits-place, admits-status, admits-lent}
 use Rattle.rows.proofs.Calls.{small-number, write-inside, update-inside, update-refused, update-5, update-no, update-11, update-0}
@@ -13,15 +14,15 @@ use Rattle.rows.proofs.update.Tie as tie
 
 -- the session was admitted, at the place that admission gave
 admitted : (c : tie.After-known-told2)
-    → let start = c .before .before .before .before .before .before .before .before .before .before .before .before .args in
-    Admits (start .«data» .now) (start .undo .now) (start .status .now) (start .t4) (start .session) (c .before .k .given .0 .0)
+    → let start = c .before .before .before .before .before .before .before .before .before .args in
+    Admits (start .«data» .now) (start .undo .now) (start .status .now) (deskIn (start .desk .now)) (start .session) (c .before .k .given .0 .0)
 admitted c = admits _ _ _ _ _ _ (sym (c .before .before .before .admit .ensures) ∙ c .before .k .given .1)
 
 -- where nothing is refused, how many pages were lent
 lent : (c : tie.Else2)
-    → let start = c .before .before .before .before .before .before .before .before .before .before .before .before .before .before .before .before .before .before .before .before .before .args in
+    → let start = c .before .before .before .before .before .before .before .before .before .before .before .before .before .before .before .before .before .before .before .args in
     AllLent (length (start .«data» .now)) (length (start .undo .now)) (length (start .status .now))
-lent c = admits-lent _ _ _ _ _ _ (admitted (c .before .before .before .before .before .before .before .before .before))
+lent c = admits-lent _ _ _ _ _ _ (admitted (c .before .before .before .before .before .before .before .before .before .before))
 
 admit-requires : tie.Need-admit-requires
 admit-requires c κs = search needs
@@ -38,11 +39,14 @@ enum-known-k c = search needs
 returns-2 : tie.Need-returns-2
 returns-2 c = does-case (update-5 _ _ _ _ _ _ _ _ (admitted (c .before)) (c .if1 .taken)) refl refl
 
-view-requires : tie.Need-view-requires
-view-requires c κs = admits-place _ _ _ _ _ _ (admitted (c .before))
+statement-requires : tie.Need-statement-requires
+statement-requires c κs = (search needs, admits-place _ _ _ _ _ _ (admitted (c .before .before)))
+
+list-requires : tie.Need-list-requires
+list-requires c κs = (search needs, admits-place _ _ _ _ _ _ (admitted (c .before .before .before .before)))
 
 may-write-requires : tie.Need-may-write-requires
-may-write-requires c κs = admits-status _ _ _ _ _ _ (admitted (c .before .before .before .before .before .before))
+may-write-requires c κs = admits-status _ _ _ _ _ _ (admitted (c .before .before .before .before .before .before .before))
 
 code-requires : tie.Need-code-requires
 code-requires c κs = search needs
@@ -55,11 +59,8 @@ same-length-2 c = search needs
 
 returns-3 : tie.Need-returns-3
 returns-3 c =
-    let asked = c .before .before in
-    let view = asked .before .before .before .before .before in
-    let long = view .before in
     does-case
-    (update-no _ _ _ _ _ _ _ _ (admitted (long .before)) (long .if1 .left) (view .view .ensures) (asked .may-write .ensures) (λ e. c .if2 .taken (c .before .code .ensures ∙ e)))
+    (update-no _ _ _ _ _ _ _ _ (admitted (c .before .before .before .before .before .before .before .before .before .before)) (c .before .before .before .before .before .before .before .before .before .if1 .left) (c .before .before .before .before .before .before .before .statement .ensures) (c .before .before .before .before .before .list .ensures) (c .before .before .may-write .ensures) (λ e. c .if2 .taken (c .before .code .ensures ∙ e)))
     refl
     refl
 
@@ -77,28 +78,17 @@ same-length-4 c = search needs
 
 returns-4 : tie.Need-returns-4
 returns-4 c =
-    let found = c .before .before in
-    let free = found .before .before in
-    let asked = free .before .before in
-    let view = asked .before .before .before .before .before in
-    let long = view .before in
     does-case
-    (update-11 _ _ _ _ _ _ _ _ (admitted (long .before)) (long .if1 .left) (view .view .ensures) (asked .may-write .ensures) (sym (free .before .code .ensures) ∙ free .if2 .left) (found .lowest-free .ensures) (c .if3 .taken))
+    (update-11 _ _ _ _ _ _ _ _ (admitted (c .before .before .before .before .before .before .before .before .before .before .before .before .before .before)) (c .before .before .before .before .before .before .before .before .before .before .before .before .before .if1 .left) (c .before .before .before .before .before .before .before .before .before .before .before .statement .ensures) (c .before .before .before .before .before .before .before .before .before .list .ensures) (c .before .before .before .before .before .before .may-write .ensures) (sym (c .before .before .before .before .before .code .ensures) ∙ c .before .before .before .before .if2 .left) (c .before .before .lowest-free .ensures) (c .if3 .taken))
     refl
     refl
 
 update-at-requires : tie.Need-update-at-requires
 update-at-requires c κs =
-    let some = c .before .before in
-    let found = some .before .before in
-    let free = found .before .before in
-    let asked = free .before .before in
-    let view = asked .before .before .before .before .before in
-    let long = view .before in
-    let fits = lent free in
-    let inside = write-inside _ _ _ _ _ _ (admitted (long .before)) _ (view .view .ensures) (asked .may-write .ensures) (sym (free .before .code .ensures) ∙ free .if2 .left) in
-    let room = update-inside _ (found .lowest-free .ensures) (some .if3 .left) in
-    (inside, small-number (fits .inData .few) (omega arith) inside, room, small-number (fits .inUndo .few) (omega arith) room, long .if1 .left)
+    let fits = lent (c .before .before .before .before .before .before) in
+    let inside = write-inside _ _ _ _ _ (c .before .before .before .before .before .before .before .before .may-write .ensures) (sym (c .before .before .before .before .before .before .before .code .ensures) ∙ c .before .before .before .before .before .before .if2 .left) in
+    let room = update-inside _ (c .before .before .before .before .lowest-free .ensures) (c .before .before .if3 .left) in
+    (inside, small-number (fits .inData .few) (omega arith) inside, room, small-number (fits .inUndo .few) (omega arith) room, c .before .before .before .before .before .before .before .before .before .before .before .before .before .before .before .if1 .left)
 
 same-length-5 : tie.Need-same-length-5
 same-length-5 c = search needs
@@ -108,17 +98,10 @@ same-length-6 c = search needs
 
 returns-5 : tie.Need-returns-5
 returns-5 c =
-    let put = c .before .before .before .before in
-    let some = put .before .before .before in
-    let found = some .before .before in
-    let free = found .before .before in
-    let asked = free .before .before in
-    let view = asked .before .before .before .before .before in
-    let long = view .before in
     does-case
-    (update-0 _ _ _ _ _ _ _ _ (admitted (long .before)) (long .if1 .left) (view .view .ensures) (asked .may-write .ensures) (sym (free .before .code .ensures) ∙ free .if2 .left) (found .lowest-free .ensures) (some .if3 .left))
+    (update-0 _ _ _ _ _ _ _ _ (admitted (c .before .before .before .before .before .before .before .before .before .before .before .before .before .before .before .before .before .before .before .before .before)) (c .before .before .before .before .before .before .before .before .before .before .before .before .before .before .before .before .before .before .before .before .if1 .left) (c .before .before .before .before .before .before .before .before .before .before .before .before .before .before .before .before .before .before .statement .ensures) (c .before .before .before .before .before .before .before .before .before .before .before .before .before .before .before .before .list .ensures) (c .before .before .before .before .before .before .before .before .before .before .before .before .before .may-write .ensures) (sym (c .before .before .before .before .before .before .before .before .before .before .before .before .code .ensures) ∙ c .before .before .before .before .before .before .before .before .before .before .before .if2 .left) (c .before .before .before .before .before .before .before .before .before .lowest-free .ensures) (c .before .before .before .before .before .before .before .if3 .left))
     refl
-    (areas-eq (put .update-at .ensures .1) (put .update-at .ensures .0) refl)
+    (areas-eq (c .before .before .before .before .update-at .ensures .1) (c .before .before .before .before .update-at .ensures .0) refl)
 
 pub update-spec : {M : Type 1} → statement M
 update-spec =
@@ -129,7 +112,8 @@ update-spec =
     returns
     enum-known-k
     returns-2
-    view-requires
+    statement-requires
+    list-requires
     may-write-requires
     code-requires
     same-length

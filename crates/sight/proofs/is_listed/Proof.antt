@@ -3,13 +3,13 @@
 use borrow.Author.Needs.{needs}
 use mathlib.Core.Path.{_≡_, refl, sym, _∙_}
 use Prim.Native.Nat.{ℕ, _≤_, _-_}
+use native.Mathlib.Nat.{sub-zero}
 use native.Mathlib.Omega.{arith}
-use lib.ListN.{getD}
+use lib.ListN.{getD, length}
 use lib.Dec.{eqb}
 use borrow.Author.Tests.{ne-eqb, le-ltb}
 use Rattle.ground.specs.Range.{firstFrom}
 use Rattle.ground.proofs.Ranges.{first-next, first-end}
-use Rattle.columns.specs.Limits.{members}
 use Rattle.sight.specs.Sight.{listed}
 use Rattle.sight.proofs.Sights.{listed-intro}
 use Rattle.sight.proofs.is_listed.Statement.{statement}
@@ -17,23 +17,29 @@ use Rattle.sight.proofs.is_listed.Tie as tie
 
 abbrev Inv-loop : tie.InvT-loop
 Inv-loop list x i₀ i =
-    (i ≤ members)
-    × (firstFrom (λ (k : ℕ). eqb (getD list k 0) x) i (members - i) ≡ firstFrom (λ (k : ℕ). eqb (getD list k 0) x) 0 members)
+    (i ≤ length list)
+    × (firstFrom (λ (k : ℕ). eqb (getD list k 0) x) i (length list - i)
+    ≡ firstFrom (λ (k : ℕ). eqb (getD list k 0) x) 0 (length list))
 
 abbrev μ-loop : tie.MeasureT-loop
-μ-loop list x i₀ i = members - i
+μ-loop list x i₀ i = length list - i
 
 loop-holds : tie.Need-loop-holds Inv-loop μ-loop
-loop-holds c = (omega arith, refl)
+loop-holds c = (omega arith, rw sub-zero)
 
-mul-if1 : tie.Need-mul-if1 Inv-loop μ-loop
-mul-if1 c = search needs
+mul-wide : tie.Need-mul-wide Inv-loop μ-loop
+mul-wide c = search needs
 
-element-copy-out-if1 : tie.Need-element-copy-out-if1 Inv-loop μ-loop
-element-copy-out-if1 c = search needs
+shared-slice-read-wide : tie.Need-shared-slice-read-wide Inv-loop μ-loop
+shared-slice-read-wide c = search needs
+
+wide-requires : tie.Need-wide-requires Inv-loop μ-loop
+wide-requires c κs = search needs
 
 returns : tie.Need-returns Inv-loop μ-loop
-returns c = sym (listed-intro _ _ (c .before .before .before .loop .i) (omega arith) (c .if1 .taken))
+returns c =
+    let head = c .before .before .before .before in
+    sym (listed-intro _ _ (head .loop .i) (omega arith) (sym (c .before .wide .ensures) ∙ c .if1 .taken))
 
 add-i : tie.Need-add-i Inv-loop μ-loop
 add-i c = search needs
@@ -43,8 +49,8 @@ loop-less c = search needs
 
 loop-again : tie.Need-loop-again Inv-loop μ-loop
 loop-again c =
-    let head = c .before .before .before in
-    (omega arith, sym (first-next _ _ _ (omega arith) (ne-eqb _ _ (c .if1 .left))) ∙ head .loop .inv .1)
+    let head = c .before .before .before .before in
+    (omega arith, sym (first-next _ _ _ (omega arith) (ne-eqb _ _ (λ e. c .if1 .left (c .before .wide .ensures ∙ e)))) ∙ head .loop .inv .1)
 
 returns-2 : tie.Need-returns-2 Inv-loop μ-loop
 unfolding listed
@@ -58,8 +64,9 @@ is-listed-spec =
     Inv-loop
     μ-loop
     loop-holds
-    mul-if1
-    element-copy-out-if1
+    mul-wide
+    shared-slice-read-wide
+    wide-requires
     returns
     add-i
     loop-less

@@ -15,18 +15,18 @@ is-known-requires-2 c κs = search needs
 returns : tie.Need-returns
 returns c =
     let known = sym (c .before .before .before .is-known .ensures) ∙ c .before .before .if1 .taken in
-    let t = c .before .before .before .before .before .args .t in
+    let t = c .before .before .before .before .before .before .args .t in
     rw (eq-eqb _ _ (c .if2 .taken), there-unexpired _ _ t (c .if2 .taken)) (sym known)
 
 returns-2 : tie.Need-returns-2
 returns-2 c =
     let known = sym (c .before .before .before .before .is-known .ensures) ∙ c .before .before .before .if1 .taken in
-    let t = c .before .before .before .before .before .before .args .t in
+    let t = c .before .before .before .before .before .before .before .args .t in
     rw (there-expired _ _ t (c .before .if2 .left) known, c .is-known2 .ensures)
 
 returns-3 : tie.Need-returns-3
 returns-3 c =
-    let t = c .before .before .before .args .t in
+    let t = c .before .before .before .before .args .t in
     rw (there-unknown _ _ t (sym (c .before .is-known .ensures) ∙ c .if1 .left)) (c .if1 .left)
 
 pub is-there-spec : {M : Type 1} → statement M

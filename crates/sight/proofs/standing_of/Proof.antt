@@ -14,6 +14,9 @@ use Rattle.sight.proofs.standing_of.Tie as tie
 within : (x a b : ℕ) → (leb a x && leb x b) ≡ true → x ≤ b
 within x a b e = leb-true x b (and-true-right (leb a x) (leb x b) e)
 
+cast-if1 : tie.Need-cast-if1
+cast-if1 c = search needs
+
 status-at-requires : tie.Need-status-at-requires
 status-at-requires c κs = (omega (arith, within (c .before .before .args .x) _ _ (c .if1 .taken)), search needs)
 
@@ -26,4 +29,4 @@ unfolding standing
 returns-2 c = rw (c .if1 .left)
 
 pub standing-of-spec : {M : Type 1} → statement M
-standing-of-spec = tie.close (tie.spec status-at-requires returns returns-2)
+standing-of-spec = tie.close (tie.spec cast-if1 status-at-requires returns returns-2)

@@ -3,16 +3,11 @@ use Prim.Native.Nat.{ℕ}
 use mathlib.Core.Path.{refl}
 use mathlib.Core.List.{List, []}
 use Rattle.kind.specs.Areas.{areas}
-use Rattle.desk.specs.declared.Desk.{Desk}
-use Rattle.rows.specs.Rows.{deleteRule}
 use Rattle.station.specs.Station.{deleteCall}
-use Rattle.station.proofs.Calls.{calls, on-desk}
+use Rattle.station.proofs.Calls.{calls}
 use borrow.Author.Needs.{needs}
 use Rattle.station.proofs.chirimok_delete.Statement.{statement}
 use Rattle.station.proofs.chirimok_delete.Tie as tie
-
-desk-in-requires : tie.Need-desk-in-requires
-desk-in-requires c κs = search needs
 
 delete-requires : tie.Need-delete-requires
 delete-requires c κs = search needs
@@ -27,20 +22,17 @@ returns : tie.Need-returns
 unfolding deleteCall
 returns c =
     let called = c .before .before .before in
-    let told = called .before .before in
-    let start = told .before .before .before .before .before in
-    let lent = areas (start .args .«data» .now) (start .args .undo .now) (start .args .status .now) in
+    let start = c .before .before .before .before .before .before .before .before in
     calls
-    (λ (n : ℕ). n)
+    (λ (y : ℕ). y)
     (λ (d : List ℕ). areas d (start .args .undo .now) (start .args .status .now))
     (λ (y : ℕ). start .args .desk .now)
     (λ (y : ℕ). [])
     _
-    (on-desk (λ (d : Desk). deleteRule lent d (start .args .session) (start .args .row)) (told .desk-in .ensures) (called .delete .ensures))
+    (called .delete .ensures)
     (c .code .ensures)
     refl
     refl
 
 pub chirimok-delete-spec : {M : Type 1} → statement M
-chirimok-delete-spec =
-    tie.close (tie.spec desk-in-requires delete-requires code-requires same-length returns)
+chirimok-delete-spec = tie.close (tie.spec delete-requires code-requires same-length returns)

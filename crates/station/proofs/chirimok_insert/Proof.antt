@@ -3,16 +3,11 @@ use Prim.Native.Nat.{ℕ}
 use mathlib.Core.Path.{refl}
 use mathlib.Core.List.{List, [], _∷_}
 use Rattle.kind.specs.Areas.{areas}
-use Rattle.desk.specs.declared.Desk.{Desk}
-use Rattle.rows.specs.Rows.{insertRule}
 use Rattle.station.specs.Station.{insertCall}
-use Rattle.station.proofs.Calls.{calls, on-desk}
+use Rattle.station.proofs.Calls.{calls}
 use borrow.Author.Needs.{needs}
 use Rattle.station.proofs.chirimok_insert.Statement.{statement}
 use Rattle.station.proofs.chirimok_insert.Tie as tie
-
-desk-in-requires : tie.Need-desk-in-requires
-desk-in-requires c κs = search needs
 
 insert-requires : tie.Need-insert-requires
 insert-requires c κs = search needs
@@ -30,21 +25,18 @@ returns : tie.Need-returns
 unfolding insertCall
 returns c =
     let called = c .before .before .before .before .before in
-    let told = called .before .before in
-    let start = told .before .before .before .before .before .before in
-    let lent = areas (start .args .«data» .now) (start .args .undo .now) (start .args .status .now) in
+    let start = c .before .before .before .before .before .before .before .before .before .before .before in
     calls
     (λ (y : ℕ × ℕ). y .0)
     (λ (d : List ℕ). areas d (start .args .undo .now) (start .args .status .now))
     (λ (y : ℕ × ℕ). start .args .desk .now)
     (λ (y : ℕ × ℕ). y .1 ∷ [])
     _
-    (on-desk (λ (d : Desk). insertRule lent d (start .args .session) (start .args .body .now)) (told .desk-in .ensures) (called .insert .ensures))
+    (called .insert .ensures)
     (c .code .ensures)
     refl
     (c .before .put-one .ensures)
 
 pub chirimok-insert-spec : {M : Type 1} → statement M
 chirimok-insert-spec =
-    tie.close
-    (tie.spec desk-in-requires insert-requires put-one-requires code-requires same-length returns)
+    tie.close (tie.spec insert-requires put-one-requires code-requires same-length returns)

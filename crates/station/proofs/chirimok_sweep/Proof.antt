@@ -2,17 +2,12 @@
 use Prim.Native.Nat.{ℕ}
 use mathlib.Core.Path.{refl}
 use mathlib.Core.List.{[], _∷_}
-use Rattle.kind.specs.Areas.{Areas, areas}
-use Rattle.desk.specs.declared.Desk.{Desk}
-use Rattle.sweeping.specs.Sweeping.{sweepRule}
+use Rattle.kind.specs.Areas.{Areas}
 use Rattle.station.specs.Station.{sweepCall}
-use Rattle.station.proofs.Calls.{calls, on-desk}
+use Rattle.station.proofs.Calls.{calls}
 use borrow.Author.Needs.{needs}
 use Rattle.station.proofs.chirimok_sweep.Statement.{statement}
 use Rattle.station.proofs.chirimok_sweep.Tie as tie
-
-desk-in-requires : tie.Need-desk-in-requires
-desk-in-requires c κs = search needs
 
 sweep-requires : tie.Need-sweep-requires
 sweep-requires c κs = search needs
@@ -33,16 +28,14 @@ returns : tie.Need-returns
 unfolding sweepCall
 returns c =
     let called = c .before .before .before .before .before .before .before in
-    let told = called .before .before .before in
-    let start = told .before .before .before .before .before in
-    let lent = areas (start .args .«data» .now) (start .args .undo .now) (start .args .status .now) in
+    let start = c .before .before .before .before .before .before .before .before .before .before .before .before .before in
     calls
     (λ (y : ℕ × ℕ × ℕ). y .0)
     (λ (a : Areas). a)
     (λ (y : ℕ × ℕ × ℕ). start .args .desk .now)
     (λ (y : ℕ × ℕ × ℕ). y .1 ∷ y .2 ∷ [])
     _
-    (on-desk (λ (d : Desk). sweepRule lent d (start .args .first) (start .args .quota)) (told .desk-in .ensures) (called .sweep .ensures))
+    (called .sweep .ensures)
     (c .code .ensures)
     refl
     (c .before .put-two .ensures)
@@ -50,11 +43,4 @@ returns c =
 pub chirimok-sweep-spec : {M : Type 1} → statement M
 chirimok-sweep-spec =
     tie.close
-    (tie.spec
-    desk-in-requires
-    sweep-requires
-    put-two-requires
-    code-requires
-    same-length
-    same-length-2
-    returns)
+    (tie.spec sweep-requires put-two-requires code-requires same-length same-length-2 returns)

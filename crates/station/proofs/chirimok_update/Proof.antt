@@ -2,17 +2,12 @@
 use Prim.Native.Nat.{ℕ}
 use mathlib.Core.Path.{refl}
 use mathlib.Core.List.{[]}
-use Rattle.kind.specs.Areas.{Areas, areas}
-use Rattle.desk.specs.declared.Desk.{Desk}
-use Rattle.rows.specs.Rows.{updateRule}
+use Rattle.kind.specs.Areas.{Areas}
 use Rattle.station.specs.Station.{updateCall}
-use Rattle.station.proofs.Calls.{calls, on-desk}
+use Rattle.station.proofs.Calls.{calls}
 use borrow.Author.Needs.{needs}
 use Rattle.station.proofs.chirimok_update.Statement.{statement}
 use Rattle.station.proofs.chirimok_update.Tie as tie
-
-desk-in-requires : tie.Need-desk-in-requires
-desk-in-requires c κs = search needs
 
 update-requires : tie.Need-update-requires
 update-requires c κs = search needs
@@ -30,21 +25,18 @@ returns : tie.Need-returns
 unfolding updateCall
 returns c =
     let called = c .before .before .before .before .before in
-    let told = called .before .before .before in
-    let start = told .before .before .before .before .before .before in
-    let lent = areas (start .args .«data» .now) (start .args .undo .now) (start .args .status .now) in
+    let start = c .before .before .before .before .before .before .before .before .before .before .before .before in
     calls
-    (λ (n : ℕ). n)
+    (λ (y : ℕ). y)
     (λ (a : Areas). a)
     (λ (y : ℕ). start .args .desk .now)
     (λ (y : ℕ). [])
     _
-    (on-desk (λ (d : Desk). updateRule lent d (start .args .session) (start .args .row) (start .args .body .now)) (told .desk-in .ensures) (called .update .ensures))
+    (called .update .ensures)
     (c .code .ensures)
     refl
     refl
 
 pub chirimok-update-spec : {M : Type 1} → statement M
 chirimok-update-spec =
-    tie.close
-    (tie.spec desk-in-requires update-requires code-requires same-length same-length-2 returns)
+    tie.close (tie.spec update-requires code-requires same-length same-length-2 returns)

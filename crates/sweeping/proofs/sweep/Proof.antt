@@ -1,5 +1,4 @@
 -- `sweeping::sweep` meets its contract, by the cases of its rule. Assumes nothing.
-use borrow.Author.Needs.{needs}
 use mathlib.Core.Path.{_≡_, refl, sym, _∙_}
 use mathlib.Core.Logic.{⊎-elim}
 use mathlib.Core.Bool.{true}
@@ -9,12 +8,14 @@ use lib.ListN.{length}
 use borrow.Author.Tests.{not-true, not-false}
 use Rattle.ground.proofs.Once.{does-case}
 use Rattle.desk.specs.Sound.{sound}
+use Rattle.words.specs.Words.{deskIn}
 use Rattle.kind.specs.Kind.{rows, lengthsOk}
 use Rattle.kind.specs.Areas.{both}
 use Rattle.kind.proofs.Lengths.{all-lent}
 use Rattle.sweeping.specs.Sweeping.{treated, allWhole}
 use Rattle.sweeping.proofs.Treats.{Inside, inside}
 use Rattle.sweeping.proofs.Calls.{treats-quota, treats-rest, treats-few, sweep-1, sweep-2, sweep-5, sweep-6, sweep-0}
+use borrow.Author.Needs.{needs}
 use Rattle.sweeping.proofs.sweep.Statement.{statement}
 use Rattle.sweeping.proofs.sweep.Tie as tie
 
@@ -25,14 +26,13 @@ good : (c : tie.Else1)
 good c = sym (c .before .lengths-ok .ensures) ∙ not-false _ (c .if1 .left)
 
 -- the desk is sound
-fine : (c : tie.Else2) → sound (c .before .before .before .before .before .before .before .before .before .before .before .args .t4) ≡ true
-unfolding sound
-fine c = sym (c .before .columns-sound .ensures) ∙ not-false _ (c .if2 .left)
+fine : (c : tie.Else2) → sound (deskIn (c .before .before .before .before .before .before .before .before .args .desk .now)) ≡ true
+fine c = sym (c .before .is-sound .ensures) ∙ not-false _ (c .if2 .left)
 
 -- how many rows are treated
 module _ (c : tie.Joined4) where
   abbrev start : tie.Start
-  start = c .before .before .before .before .before .before .before .before .before .before .before .before .before .before
+  start = c .before .before .before .before .before .before .before .before .before .before .before
 
   treats : c .if4 .n ≡ treated (start .args .«data» .now) (start .args .first) (start .args .quota)
   treats = ⊎-elim (λ x. x .1 ∙ treats-quota _ _ _ (x .0 .taken)) (λ x. x .1 ∙ treats-rest _ _ _ (x .0 .left)) (c .if4 .came)
@@ -43,10 +43,9 @@ module _ (c : tie.Joined4) where
   -- they lie in the area lent
   lent : Inside (start .args .first) (c .if4 .n) (both (start .args .«data» .now) (start .args .undo .now))
   lent =
-      let known = c .before .before .before .before .before .before .before .before .before .before .before in
       inside (start .args .«data» .now) (start .args .undo .now) (start .args .first) (c .if4 .n) few
-      (λ i. omega (arith, known .before .before .slice-known .given i))
-      (λ i. omega (arith, known .before .slice-known2 .given i))
+      (λ i. omega (arith, c .before .before .before .before .before .before .before .before .before .before .slice-known .given i))
+      (λ i. omega (arith, c .before .before .before .before .before .before .before .before .before .slice-known2 .given i))
 
 -- they have no break
 whole : (c : tie.Else5)
@@ -63,20 +62,14 @@ unswept-requires c κs = search needs
 returns : tie.Need-returns
 returns c = does-case (sweep-1 _ _ _ _ _ _ (sym (c .before .before .lengths-ok .ensures) ∙ not-true _ (c .before .if1 .taken))) (c .unswept .ensures) refl
 
-columns-sound-requires : tie.Need-columns-sound-requires
-columns-sound-requires c κs = search needs
+is-sound-requires : tie.Need-is-sound-requires
+is-sound-requires c κs = search needs
 
 unswept-requires-2 : tie.Need-unswept-requires-2
 unswept-requires-2 c κs = search needs
 
 returns-2 : tie.Need-returns-2
-unfolding sound
-returns-2 c =
-    let asked = c .before .before in
-    does-case
-    (sweep-2 _ _ _ _ _ _ (good (asked .before .before .before .before .before)) (sym (asked .columns-sound .ensures) ∙ not-true _ (c .before .if2 .taken)))
-    (c .unswept2 .ensures)
-    refl
+returns-2 c = does-case (sweep-2 _ _ _ _ _ _ (good (c .before .before .before .before)) (sym (c .before .before .is-sound .ensures) ∙ not-true _ (c .before .if2 .taken))) (c .unswept2 .ensures) refl
 
 mul-rows : tie.Need-mul-rows
 mul-rows c = search needs
@@ -85,9 +78,7 @@ unswept-requires-3 : tie.Need-unswept-requires-3
 unswept-requires-3 c κs = search needs
 
 returns-3 : tie.Need-returns-3
-returns-3 c =
-    let sound = c .before .before .before in
-    does-case (sweep-5 _ _ _ _ _ _ (good (sound .before .before .before .before .before .before)) (fine sound) (c .before .if3 .taken)) (c .unswept3 .ensures) refl
+returns-3 c = does-case (sweep-5 _ _ _ _ _ _ (good (c .before .before .before .before .before .before)) (fine (c .before .before .before)) (c .before .if3 .taken)) (c .unswept3 .ensures) refl
 
 are-whole-requires : tie.Need-are-whole-requires
 are-whole-requires c κs = few (c .before .before)
@@ -103,29 +94,25 @@ same-length-2 c = search needs
 
 returns-4 : tie.Need-returns-4
 returns-4 c =
-    let looked = c .before .before in
-    let joined = looked .before .before .before in
-    let sound = joined .before .before .before in
     does-case
-    (sweep-6 _ _ _ _ _ _ (good (sound .before .before .before .before .before .before)) (fine sound) (joined .before .if3 .left) (treats joined)
-    (sym (looked .are-whole .ensures) ∙ not-true _ (c .before .if5 .taken)))
+    (sweep-6 _ _ _ _ _ _ (good (c .before .before .before .before .before .before .before .before .before .before .before)) (fine (c .before .before .before .before .before .before .before .before)) (c .before .before .before .before .before .before .if3 .left) (treats (c .before .before .before .before .before)) (sym (c .before .before .are-whole .ensures) ∙ not-true _ (c .before .if5 .taken)))
     (c .unswept4 .ensures)
     refl
 
 mark-requires : tie.Need-mark-requires
 mark-requires c κs = search needs
 
-sweep-rows-requires : tie.Need-sweep-rows-requires
-sweep-rows-requires c κs =
-    let else = c .before .before .before .before .before .before in
-    let joined = else .before .before .before .before in
-    (few joined, good (joined .before .before .before .before .before .before .before .before .before), whole else)
+cast-mark : tie.Need-cast-mark
+cast-mark c = search needs
 
-add-t15 : tie.Need-add-t15
-add-t15 c =
-    let joined = c .before .before .before .before .before .before .before .before .before .before .before .before .before .before .before .before in
+sweep-rows-requires : tie.Need-sweep-rows-requires
+sweep-rows-requires c κs = (few (c .before .before .before .before .before .before .before .before), good (c .before .before .before .before .before .before .before .before .before .before .before .before .before .before), whole (c .before .before .before .before))
+
+add-t14 : tie.Need-add-t14
+add-t14 c =
+    let joined = c .before .before .before .before .before .before .before .before .before .before .before .before .before .before in
     let pages : length (start joined .args .«data» .now) / 8192 ≤ 64
-    = all-lent _ (length (start joined .args .undo .now)) (length (start joined .args .status .now)) (good (joined .before .before .before .before .before .before .before .before .before)) .inData .few in
+    = all-lent _ (length (start joined .args .undo .now)) (length (start joined .args .status .now)) (good (c .before .before .before .before .before .before .before .before .before .before .before .before .before .before .before .before .before .before .before .before)) .inData .few in
     omega (arith, few joined, pages)
 
 same-length-3 : tie.Need-same-length-3
@@ -136,14 +123,10 @@ same-length-4 c = search needs
 
 returns-5 : tie.Need-returns-5
 returns-5 c =
-    let called = c .before .before .before .before .before in
-    let marked = called .before .before .before in
-    let else = marked .before .before .before .before in
-    let joined = else .before .before .before .before in
-    let sound = joined .before .before .before in
+    let joined = c .before .before .before .before .before .before .before .before .before .before .before .before .before .before in
     does-case
-    (sweep-0 _ _ _ _ _ _ (good (sound .before .before .before .before .before .before)) (fine sound) (joined .before .if3 .left) (treats joined) (whole else)
-    (lent joined) (marked .mark .ensures) (called .sweep-rows .ensures .0) (called .sweep-rows .ensures .1))
+    (sweep-0 _ _ _ _ _ _ (good (c .before .before .before .before .before .before .before .before .before .before .before .before .before .before .before .before .before .before .before .before)) (fine (c .before .before .before .before .before .before .before .before .before .before .before .before .before .before .before .before .before)) (c .before .before .before .before .before .before .before .before .before .before .before .before .before .before .before .if3 .left) (treats joined) (whole (c .before .before .before .before .before .before .before .before .before .before))
+    (lent joined) (c .before .before .before .before .before .before .before .before .mark .ensures) (c .before .before .before .before .before .sweep-rows .ensures .0) (c .before .before .before .before .before .sweep-rows .ensures .1))
     refl
     refl
 
@@ -154,7 +137,7 @@ sweep-spec =
     lengths-ok-requires
     unswept-requires
     returns
-    columns-sound-requires
+    is-sound-requires
     unswept-requires-2
     returns-2
     mul-rows
@@ -166,8 +149,9 @@ sweep-spec =
     same-length-2
     returns-4
     mark-requires
+    cast-mark
     sweep-rows-requires
-    add-t15
+    add-t14
     same-length-3
     same-length-4
     returns-5)

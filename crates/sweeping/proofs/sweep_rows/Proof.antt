@@ -1,118 +1,75 @@
--- `sweeping::sweep_rows` meets its contract. The loop's invariant: from here on the rule does what it does from the first row on; that
--- the rows to come still have no break is the independence of rows. Assumes nothing.
+-- `sweeping::sweep_rows` meets its contract: no count is due at first, and at last each that is due is counted. Assumes nothing.
 use borrow.Author.Needs.{needs}
-use mathlib.Core.Path.{_≡_, refl}
-use Prim.Native.Nat.{_≤_, _-_, _*_, _/_}
-use native.Mathlib.Omega.{arith}
+use Prim.Native.Nat.{_≤_, _/_}
 use lib.ListN.{length}
-use Rattle.kind.specs.Areas.{both}
-use Rattle.kind.proofs.Lengths.{all-lent, status-length}
-use Rattle.sweeping.proofs.Treats.{Inside, Upto, inside, ready, upto-start, upto-whole, upto-next, upto-end, gone-few}
+use Rattle.kind.specs.Kind.{dataKind, undoKind}
+use Rattle.kind.proofs.Lengths.{all-lent}
+use Rattle.sweeping.proofs.Dues.{none-due, starts-whole, ends}
 use Rattle.sweeping.proofs.sweep_rows.Statement.{statement}
 use Rattle.sweeping.proofs.sweep_rows.Tie as tie
 
-abbrev Inv-loop : tie.InvT-loop
-Inv-loop data₀ undo₀ status first n mark removed₀ i₀ «data» undo removed i =
-    (i ≤ n)
-    × (length «data» ≡ length data₀)
-    × (length undo ≡ length undo₀)
-    × (removed ≤ i * 6465)
-    × Upto mark status first n (both data₀ undo₀) (both «data» undo) i removed
-
-abbrev μ-loop : tie.MeasureT-loop
-μ-loop data₀ undo₀ status first n mark removed₀ i₀ «data» undo removed i = n - i
-
 -- how many pages the areas have
-module _ (c : tie.Start Inv-loop μ-loop) where
+module _ (c : tie.Start) where
   data-few : length (c .args .«data» .now) / 8192 ≤ 64
   data-few = all-lent (length (c .args .«data» .now)) (length (c .args .undo .now)) (length (c .args .status .now)) (c .pre .1) .inData .few
 
   undo-few : length (c .args .undo .now) / 8192 ≤ 64
   undo-few = all-lent (length (c .args .«data» .now)) (length (c .args .undo .now)) (length (c .args .status .now)) (c .pre .1) .inUndo .few
 
--- the rows lie in the area lent
-lent : (c : tie.After-shared-slice-known Inv-loop μ-loop)
-    → let start = c .before .before .before in
-    Inside (start .args .first) (start .args .n) (both (start .args .«data» .now) (start .args .undo .now))
-lent c =
-    let start = c .before .before .before in
-    inside (start .args .«data» .now) (start .args .undo .now) (start .args .first) (start .args .n) (start .pre .0)
-    (λ i. omega (arith, c .before .before .slice-known .given i))
-    (λ i. omega (arith, c .before .slice-known2 .given i))
+slice-aggregate-sweep-uncounted : tie.Need-slice-aggregate-sweep-uncounted
+slice-aggregate-sweep-uncounted c = search needs
 
--- how many versions went from a row
-gone : (c : tie.After-sweep-row Inv-loop μ-loop) → c .sweep-row .result ≤ 6465
-gone c =
-    let head = c .before .before .before .before in
-    let start = head .before .before .before .before in
-    let few : length (head .loop .undo) / 8192 ≤ 64 = omega (arith, undo-few start, head .loop .inv .2) in
-    gone-few _ _ _ (head .loop .undo) _ (c .sweep-row .ensures .0) few
+slice-aggregate-sweep-uncounted-2 : tie.Need-slice-aggregate-sweep-uncounted-2
+slice-aggregate-sweep-uncounted-2 c = search needs
 
-loop-holds : tie.Need-loop-holds Inv-loop μ-loop
-loop-holds c =
-    let start = c .before .before .before in (
-      omega arith,
-      refl,
-      refl,
-      omega arith,
-      upto-start _ _ _ _ _ (ready _ _ _ _ (lent c) (start .pre .2)),
-    )
+sweep-uncounted-requires : tie.Need-sweep-uncounted-requires
+sweep-uncounted-requires c κs =
+    let start = c .before .before .before .before .before .before .before in
+    (start .pre .0, start .pre .1, data-few start, undo-few start, starts-whole _ _ _ _ _ _ (none-due (dataKind .most)) (none-due (undoKind .most)) (start .pre .2))
 
-add-sweep-row : tie.Need-add-sweep-row Inv-loop μ-loop
-add-sweep-row c = search needs
+slice-aggregate-tally : tie.Need-slice-aggregate-tally
+slice-aggregate-tally c = search needs
 
-sweep-row-requires : tie.Need-sweep-row-requires Inv-loop μ-loop
-sweep-row-requires c κs =
-    let head = c .before .before .before in
-    let start = head .before .before .before .before in
-    (omega (arith, start .pre .0), status-length _ _ _ (start .pre .1), upto-whole _ _ _ _ _ _ _ _ (head .loop .inv .4) (omega arith))
+tally-requires : tie.Need-tally-requires
+tally-requires c κs =
+    let swept = c .before .before .before .before .before .before .before .before in
+    let few = data-few (swept .before .before .before .before .before .before .before .before) in
+    (search needs, search needs)
 
-add-removed : tie.Need-add-removed Inv-loop μ-loop
-add-removed c =
-    let called = c .before .before .before .before in
-    let head = called .before .before .before .before in
-    let start = head .before .before .before .before in
-    omega (arith, gone called, head .loop .inv .3, start .pre .0, data-few start)
+slice-aggregate-tally-2 : tie.Need-slice-aggregate-tally-2
+slice-aggregate-tally-2 c = search needs
 
-add-i : tie.Need-add-i Inv-loop μ-loop
-add-i c = search needs
+tally-requires-2 : tie.Need-tally-requires-2
+tally-requires-2 c κs =
+    let swept = c .before .before .before .before .before .before .before .before .before .before .before .before .before in
+    let few = undo-few (swept .before .before .before .before .before .before .before .before) in
+    (search needs, search needs)
 
-loop-less : tie.Need-loop-less Inv-loop μ-loop
-loop-less c = search needs
-
-loop-again : tie.Need-loop-again Inv-loop μ-loop
-loop-again c =
-    let called = c .before .before .before .before in
-    let head = called .before .before .before .before in (
-      omega arith,
-      omega arith,
-      omega arith,
-      omega (arith, gone called, head .loop .inv .3),
-      upto-next _ _ _ _ _ _ _ _ (head .loop .inv .4) (omega arith) (called .sweep-row .ensures .0) (called .sweep-row .ensures .1),
-    )
-
-same-length : tie.Need-same-length Inv-loop μ-loop
+same-length : tie.Need-same-length
 same-length c = search needs
 
-same-length-2 : tie.Need-same-length-2 Inv-loop μ-loop
+same-length-2 : tie.Need-same-length-2
 same-length-2 c = search needs
 
-returns : tie.Need-returns Inv-loop μ-loop
-returns c = upto-end _ _ _ _ _ _ _ _ (c .before .loop .inv .4) (omega arith)
+returns : tie.Need-returns
+returns c =
+    let undo-counted = c .before .before in
+    let data-counted = undo-counted .before .before .before .before .before in
+    let swept = data-counted .before .before .before .before .before .before .before .before .before in
+    ends _ _ _ _ _ _ (none-due (dataKind .most)) (none-due (undoKind .most)) _ _ (swept .sweep-uncounted .ensures .0) (swept .sweep-uncounted .ensures .1)
+    (data-counted .tally .ensures) (undo-counted .tally2 .ensures)
 
 pub sweep-rows-spec : {M : Type 1} → statement M
 sweep-rows-spec =
     tie.close
     (tie.spec
-    Inv-loop
-    μ-loop
-    loop-holds
-    add-sweep-row
-    sweep-row-requires
-    add-removed
-    add-i
-    loop-less
-    loop-again
+    slice-aggregate-sweep-uncounted
+    slice-aggregate-sweep-uncounted-2
+    sweep-uncounted-requires
+    slice-aggregate-tally
+    tally-requires
+    slice-aggregate-tally-2
+    tally-requires-2
     same-length
     same-length-2
     returns)

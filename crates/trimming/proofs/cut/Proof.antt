@@ -15,8 +15,9 @@ unlink-requires c κs = search needs
 
 cut-slot-requires : tie.Need-cut-slot-requires
 cut-slot-requires c κs =
-    let known = c .before .before .before in
-    inside-data _ _ _ (known .at .given .1) (known .before .before .before .before .pre)
+    let known = c .before .before .before .before in
+    let start = known .before .before .before .before .before .before in
+    (inside-data _ _ _ (known .at .given .1) (start .pre .0), start .pre .1)
 
 enum-known-at-2 : tie.Need-enum-known-at-2
 enum-known-at-2 c = search needs
@@ -26,8 +27,9 @@ unlink-requires-2 c κs = search needs
 
 cut-copy-requires : tie.Need-cut-copy-requires
 cut-copy-requires c κs =
-    let known = c .before .before .before in
-    inside-undo _ _ _ (known .at2 .given .1) (known .before .before .before .before .pre)
+    let known = c .before .before .before .before in
+    let start = known .before .before .before .before .before .before in
+    (inside-undo _ _ _ (known .at2 .given .1) (start .pre .0), start .pre .2)
 
 returns : tie.Need-returns
 returns c = cut-none _ _ _ (c .enum-told .given .1)
@@ -35,20 +37,26 @@ returns c = cut-none _ _ _ (c .enum-told .given .1)
 same-length : tie.Need-same-length
 same-length c = search needs
 
-returns-2 : tie.Need-returns-2
-returns-2 c =
-    let done = c .before .before in
-    let made = done .before in
-    cut-data _ _ _ _ (made .before .before .before .at .given .1) (made .unlink .ensures) (done .cut-slot .ensures)
-
 same-length-2 : tie.Need-same-length-2
 same-length-2 c = search needs
 
+returns-2 : tie.Need-returns-2
+returns-2 c =
+    let done = c .before .before .before .before in
+    let made = done .before in
+    cut-data _ _ _ _ (made .before .before .before .before .at .given .1) (made .unlink .ensures) (done .cut-slot .ensures)
+
+same-length-3 : tie.Need-same-length-3
+same-length-3 c = search needs
+
+same-length-4 : tie.Need-same-length-4
+same-length-4 c = search needs
+
 returns-3 : tie.Need-returns-3
 returns-3 c =
-    let done = c .before .before in
+    let done = c .before .before .before .before in
     let made = done .before in
-    cut-undo _ _ _ _ (made .before .before .before .at2 .given .1) (made .unlink2 .ensures) (done .cut-copy .ensures)
+    cut-undo _ _ _ _ (made .before .before .before .before .at2 .given .1) (made .unlink2 .ensures) (done .cut-copy .ensures)
 
 pub cut-spec : {M : Type 1} → statement M
 cut-spec =
@@ -63,6 +71,8 @@ cut-spec =
     cut-copy-requires
     returns
     same-length
-    returns-2
     same-length-2
+    returns-2
+    same-length-3
+    same-length-4
     returns-3)

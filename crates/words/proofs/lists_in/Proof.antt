@@ -4,6 +4,7 @@ use mathlib.Core.List.{_++_}
 use Prim.Native.Nat.{_≤_, _-_}
 use native.Mathlib.Omega.{arith}
 use lib.ListN.{take, drop, replicate}
+use Rattle.columns.specs.Limits.{places}
 use Rattle.columns.proofs.Columns.{part-next}
 use Rattle.words.proofs.Copies.{copied}
 use borrow.Author.Needs.{needs}
@@ -11,10 +12,10 @@ use Rattle.words.proofs.lists_in.Statement.{statement}
 use Rattle.words.proofs.lists_in.Tie as tie
 
 abbrev Inv-loop : tie.InvT-loop
-Inv-loop words lists₀ i₀ lists i = (i ≤ 240) × (lists ≡ take i (drop 33 words) ++ drop i lists₀)
+Inv-loop words at lists₀ i₀ lists i = (i ≤ places) × (lists ≡ take i (drop at words) ++ drop i lists₀)
 
 abbrev μ-loop : tie.MeasureT-loop
-μ-loop words lists₀ i₀ lists i = 240 - i
+μ-loop words at lists₀ i₀ lists i = places - i
 
 loop-holds : tie.Need-loop-holds Inv-loop μ-loop
 loop-holds c = (omega arith, refl)
@@ -43,23 +44,14 @@ loop-less c = search needs
 loop-again : tie.Need-loop-again Inv-loop μ-loop
 loop-again c =
     let head = c .before .before in
-    let start = head .before in (
-      omega arith,
-      part-next
-          (replicate 240 0)
-          (start .args .words .now)
-          33
-          (head .loop .i)
-          _
-          (head .loop .inv .1)
-          (omega arith)
-          (omega arith),
-    )
+    let start = head .before in
+    (omega arith, part-next (replicate places 0) (start .args .words .now) (start .args .at) (head .loop .i) _ (head .loop .inv .1) (omega arith) (omega arith))
 
 returns : tie.Need-returns Inv-loop μ-loop
 returns c =
     let head = c .before in
-    copied 240 33 (head .before .args .words .now) _ _ (head .loop .inv .0) (c .loop-test .left) (head .loop .inv .1)
+    let start = head .before in
+    copied places (start .args .at) (start .args .words .now) _ _ (head .loop .inv .0) (c .loop-test .left) (head .loop .inv .1)
 
 pub lists-in-spec : {M : Type 1} → statement M
 lists-in-spec =

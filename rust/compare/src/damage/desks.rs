@@ -50,10 +50,10 @@ pub fn desks() -> Vec<Damage> {
         unsound("next 0", |store, _| *store.next_mut() = 0),
         unsound("next 0 without sessions", |store, _| store.desk = [0; WORDS]),
         unsound("next above 32,576", |store, random| {
-            *store.next_mut() = random.pick(&[32_577, 1 << 16, 1 << 32, u64::MAX]);
+            *store.next_mut() = random.pick(&[32_577, 1 << 16, 1 << 31, u32::MAX]);
         }),
         unsound("number not below next", |store, random| {
-            *store.number_mut(2) = random.pick(&[9, 10, 1 << 32, u64::MAX]);
+            *store.number_mut(2) = random.pick(&[9, 10, 1 << 31, u32::MAX]);
         }),
         unsound("equal numbers", |store, _| *store.number_mut(1) = 3),
         unsound("descending numbers", |store, _| {
@@ -65,17 +65,21 @@ pub fn desks() -> Vec<Damage> {
             *store.number_mut(4 + random.index(12)) = 8;
         }),
         unsound("statement above 65,535", |store, random| {
-            let statement = random.pick(&[65_536, u32::MAX.into(), 1 << 32, u64::MAX]);
-            *store.statement_mut(random.index(3)) = statement;
+            *store.statement_mut(random.index(3)) = random.pick(&[65_536, 1 << 31, u32::MAX]);
         }),
-        unsound("statement beyond 32 bits, low bits sound", |store, random| {
-            *store.statement_mut(random.index(3)) = 1 << 32 | 1;
+        unsound("statement beyond 16 bits, low bits sound", |store, random| {
+            *store.statement_mut(random.index(3)) = 1 << 16 | 1;
         }),
         unsound("unused place with a statement", |store, random| {
-            *store.statement_mut(3 + random.index(13)) = random.pick(&[1, 1 << 32, u64::MAX]);
+            *store.statement_mut(3 + random.index(13)) = random.pick(&[1, 1 << 31, u32::MAX]);
         }),
         unsound("unused place with a member", |store, random| {
             *store.member_mut(3 + random.index(13), random.index(15)) = 1;
+        }),
+        unsound("last unused place with a statement", |store, _| *store.statement_mut(15) = 1),
+        unsound("last unused place with a member", |store, _| *store.member_mut(15, 14) = 1),
+        unsound("last unused place of a list with a member", |store, random| {
+            *store.member_mut(random.index(3), 14) = random.pick(&[1, 7]);
         }),
         unsound("unused member before a used one", |store, _| *store.member_mut(2, 0) = 0),
         unsound("member behind unused places", |store, random| {
@@ -84,10 +88,10 @@ pub fn desks() -> Vec<Damage> {
         unsound("equal members", |store, _| *store.member_mut(2, 1) = 3),
         unsound("descending members", |store, _| *store.member_mut(2, 1) = 2),
         unsound("member not below its session", |store, random| {
-            *store.member_mut(2, 1) = random.pick(&[8, 9, 1 << 32, u64::MAX]);
+            *store.member_mut(2, 1) = random.pick(&[8, 9, 1 << 31, u32::MAX]);
         }),
         unsound("any one word", |store, random| {
-            store.desk[random.index(WORDS)] = random.number();
+            store.desk[random.index(WORDS)] = random.number() as u32;
         }),
         desk("last number", &[("begin", &[13])], |store, _| *store.next_mut() = 32_576),
         desk("last number but one", &[("begin", &[0])], |store, _| *store.next_mut() = 32_575),
@@ -98,8 +102,8 @@ pub fn desks() -> Vec<Damage> {
         desk("sixteen sessions, full lists, last number", &[("begin", &[12])], |store, _| {
             *store.next_mut() = 32_576;
             for place in 0..16 {
-                *store.number_mut(place) = 32_560 + place as u64;
-                (0..15).for_each(|member| *store.member_mut(place, member) = 1 + member as u64);
+                *store.number_mut(place) = 32_560 + place as u32;
+                (0..15).for_each(|member| *store.member_mut(place, member) = 1 + member as u32);
             }
         }),
         desk("no session", &[("seal", &[0]), ("sweep", &[0])], |store, _| {

@@ -4,20 +4,11 @@ use borrow.Author.Needs.{needs}
 use Rattle.desk.proofs.Desk.begin.Statement.{statement}
 use Rattle.desk.proofs.Desk.begin.Tie as tie
 
+slice-aggregate-open-count : tie.Need-slice-aggregate-open-count
+slice-aggregate-open-count c = search needs
+
 open-count-requires : tie.Need-open-count-requires
 open-count-requires c κs = search needs
-
-mul-numbers : tie.Need-mul-numbers
-mul-numbers c = search needs
-
-array-write-numbers : tie.Need-array-write-numbers
-array-write-numbers c = search needs
-
-mul-statements : tie.Need-mul-statements
-mul-statements c = search needs
-
-array-write-statements : tie.Need-array-write-statements
-array-write-statements c = search needs
 
 mul-with-list : tie.Need-mul-with-list
 mul-with-list c = search needs
@@ -25,8 +16,20 @@ mul-with-list c = search needs
 with-list-requires : tie.Need-with-list-requires
 with-list-requires c κs = search needs
 
-add-t16 : tie.Need-add-t16
-add-t16 c = search needs
+mul-self : tie.Need-mul-self
+mul-self c = search needs
+
+element-write-self : tie.Need-element-write-self
+element-write-self c = search needs
+
+mul-self-2 : tie.Need-mul-self-2
+mul-self-2 c = search needs
+
+element-write-self-2 : tie.Need-element-write-self-2
+element-write-self-2 c = search needs
+
+add-self : tie.Need-add-self
+add-self c = search needs
 
 returns : tie.Need-returns
 unfolding begun
@@ -36,12 +39,13 @@ pub begin-spec : {M : Type 1} → statement M
 begin-spec =
     tie.close
     (tie.spec
+    slice-aggregate-open-count
     open-count-requires
-    mul-numbers
-    array-write-numbers
-    mul-statements
-    array-write-statements
     mul-with-list
     with-list-requires
-    add-t16
+    mul-self
+    element-write-self
+    mul-self-2
+    element-write-self-2
+    add-self
     returns)

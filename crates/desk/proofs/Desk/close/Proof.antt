@@ -4,11 +4,11 @@ use borrow.Author.Needs.{needs}
 use Rattle.desk.proofs.Desk.close.Statement.{statement}
 use Rattle.desk.proofs.Desk.close.Tie as tie
 
-without-number-requires : tie.Need-without-number-requires
-without-number-requires c κs = search needs
+without-place-requires : tie.Need-without-place-requires
+without-place-requires c κs = search needs
 
-without-statement-requires : tie.Need-without-statement-requires
-without-statement-requires c κs = search needs
+without-place-requires-2 : tie.Need-without-place-requires-2
+without-place-requires-2 c κs = search needs
 
 mul-without-list : tie.Need-mul-without-list
 mul-without-list c = search needs
@@ -24,8 +24,8 @@ pub close-spec : {M : Type 1} → statement M
 close-spec =
     tie.close
     (tie.spec
-    without-number-requires
-    without-statement-requires
+    without-place-requires
+    without-place-requires-2
     mul-without-list
     without-list-requires
     returns)
