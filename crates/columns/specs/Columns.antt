@@ -1,4 +1,5 @@
--- A column without some places, a list's used places, and the mark ("01, Sessions and sight", "01, Writes, withdrawal, sweep"). Assumes nothing.
+-- A column without some places, a list's used places, and the mark ("01, Sessions and sight", "01, Writes, withdrawal, sweep").
+-- Assumes nothing.
 use Prim.Native.Nat.{ℕ, _+_}
 use mathlib.Core.Bool.{not, _&&_, cond}
 use mathlib.Core.List.{List, [], _∷_, _++_}
@@ -11,7 +12,7 @@ use Rattle.columns.specs.Limits.{members}
 unfoldable pub without : ℕ → ℕ → List ℕ → List ℕ
 without at w l = take at l ++ drop (at + w) l ++ replicate w 0
 
--- a list's used places: those before its first unused one
+-- a list's used places: those before its first unused one, which is 0 ("01, Sessions and sight")
 unfoldable pub usedIn : List ℕ → ℕ
 usedIn l = firstFrom (λ (i : ℕ). eqb (getD l i 0) 0) 0 members
 

@@ -1,5 +1,5 @@
--- The desk as words of 32 bits: next, 16 numbers, 16 statements, 16 lists of 15; and back. Where each column lies among them is said
--- here, once. Assumes nothing.
+-- The desk as words of 32 bits: next, 16 numbers, 16 statements, 16 lists of 15; and back ("01, What the station lends"; words of 32
+-- bits since 02, T-12). Where each column lies among them is said here, once. Assumes nothing.
 use Prim.Native.Nat.{ℕ, _+_}
 use mathlib.Core.List.{List, _∷_, _++_}
 use mathlib.Core.Path.{_≡_}
