@@ -13,3 +13,4 @@ pub mod Counted
 pub mod Reopened
 pub mod Progress
 pub mod Promises
+pub mod Since

@@ -1,3 +1,4 @@
 pub mod World
 pub mod Asked
 pub mod Theorems
+pub mod Since

@@ -18,9 +18,10 @@ use Rattle.numeral.proofs.Bodies.{nibbleOf-below, length-hexOf, hexAlon
 
 -- ---- numbers
 
-pub numeral-length : (v : ℕ) → v < 2 ^ 64 → (1 ≤ length (numeralOf v)) × (length (numeralOf v) ≤ 20)
+-- no number is written with more than 20 digits, however large
+pub numeral-length : (v : ℕ) → (1 ≤ length (numeralOf v)) × (length (numeralOf v) ≤ 20)
 unfolding numeralOf
-numeral-length v h = length-spelled 19 v
+numeral-length v = length-spelled 19 v
 
 pub numeral-digits : (v : ℕ) → v < 2 ^ 64 → digitsAlone (numeralOf v) ≡ true
 unfolding numeralOf

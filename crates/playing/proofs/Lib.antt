@@ -1,1 +1,2 @@
 pub mod Playings
+pub mod Lengths

@@ -57,9 +57,9 @@ length-tabbed-two f g =
     ap length (tabbed-two f g) ∙ length-append (tabbed (f ∷ [])) (tabbed (g ∷ [])) ∙ omega (arith, length-tabbed-one f, length-tabbed-one g)
 
 -- a field said ends within its longest, and the buffer keeps its length
-pub number-within : {s t : List ℕ} {at e : ℕ} (n : ℕ) → n < 2 ^ 64 → Says (tabbed (numeralOf n ∷ [])) at s e t
+pub number-within : {s t : List ℕ} {at e : ℕ} (n : ℕ) → Says (tabbed (numeralOf n ∷ [])) at s e t
     → (e ≤ at + 21) × (length t ≡ length s)
-number-within n h x = (omega (arith, x .ends, length-tabbed-one (numeralOf n), numeral-length n h), says-length x)
+number-within n x = (omega (arith, x .ends, length-tabbed-one (numeralOf n), numeral-length n), says-length x)
 
 pub body-within : {s t : List ℕ} {at e : ℕ} (b : List ℕ) → length b ≤ 32 → Says (tabbed (hexOf b ∷ [])) at s e t
     → (e ≤ at + 65) × (length t ≡ length s)
@@ -100,29 +100,26 @@ pub says-fields : {s m t : List ℕ} {at e f : ℕ} (code : ℕ) (fields : List 
     → Says ((48 ∷ []) ++ tabbed fields) at s e m → Says newline e m f t → Says (answerLine code fields) at s f t
 says-fields code fields z x y = says-as (sym (ap (λ (c : ℕ). answerLine c fields) z ∙ answer-fields fields)) (says-append x y)
 
--- ---- how long an answer is
+-- ---- how long an answer is: at most 88 bytes, whatever its code and its numbers
 
-answer-within : (code : ℕ) (fields : List (List ℕ)) → code < 2 ^ 32 → length (tabbed fields) ≤ 86 → length (answerLine code fields) ≤ 88
-answer-within zero fields h k = rw answer-fields (simp length-append (omega arith))
-answer-within (suc c) fields h k =
-    rw (answer-refused (suc c) fields (λ e. omega arith), answer-plain) (simp length-append (omega (arith, numeral-length (suc c) (omega arith))))
+answer-within : (code : ℕ) (fields : List (List ℕ)) → length (tabbed fields) ≤ 86 → length (answerLine code fields) ≤ 88
+answer-within zero fields k = rw answer-fields (simp length-append (omega arith))
+answer-within (suc c) fields k =
+    rw (answer-refused (suc c) fields (λ e. omega arith), answer-plain) (simp length-append (omega (arith, numeral-length (suc c))))
 
-pub answer-length-plain : (code : ℕ) → code < 2 ^ 32 → length (answerLine code []) ≤ 88
+pub answer-length-plain : (code : ℕ) → length (answerLine code []) ≤ 88
 unfolding tabbed
-answer-length-plain code h = answer-within code [] h (omega arith)
+answer-length-plain code = answer-within code [] (omega arith)
 
-pub answer-length-numbered : (code n : ℕ) → code < 2 ^ 32 → n < 2 ^ 64 → length (answerLine code (numeralOf n ∷ [])) ≤ 88
-answer-length-numbered code n h k =
-    answer-within code (numeralOf n ∷ []) h (omega (arith, length-tabbed-one (numeralOf n), numeral-length n k))
+pub answer-length-numbered : (code n : ℕ) → length (answerLine code (numeralOf n ∷ [])) ≤ 88
+answer-length-numbered code n = answer-within code (numeralOf n ∷ []) (omega (arith, length-tabbed-one (numeralOf n), numeral-length n))
 
-pub answer-length-paired : (code n m : ℕ) → code < 2 ^ 32 → n < 2 ^ 64 → m < 2 ^ 64
-    → length (answerLine code (numeralOf n ∷ numeralOf m ∷ [])) ≤ 88
-answer-length-paired code n m h k j =
-    answer-within code (numeralOf n ∷ numeralOf m ∷ []) h
-    (omega (arith, length-tabbed-two (numeralOf n) (numeralOf m), numeral-length n k, numeral-length m j))
+pub answer-length-paired : (code n m : ℕ) → length (answerLine code (numeralOf n ∷ numeralOf m ∷ [])) ≤ 88
+answer-length-paired code n m =
+    answer-within code (numeralOf n ∷ numeralOf m ∷ [])
+    (omega (arith, length-tabbed-two (numeralOf n) (numeralOf m), numeral-length n, numeral-length m))
 
-pub answer-length-bodied : (code n : ℕ) (body : List ℕ) → code < 2 ^ 32 → n < 2 ^ 64 → length body ≤ 32
-    → length (answerLine code (numeralOf n ∷ hexOf body ∷ [])) ≤ 88
-answer-length-bodied code n body h k j =
-    answer-within code (numeralOf n ∷ hexOf body ∷ []) h
-    (omega (arith, length-tabbed-two (numeralOf n) (hexOf body), numeral-length n k, hex-length body))
+pub answer-length-bodied : (code n : ℕ) (body : List ℕ) → length body ≤ 32 → length (answerLine code (numeralOf n ∷ hexOf body ∷ [])) ≤ 88
+answer-length-bodied code n body j =
+    answer-within code (numeralOf n ∷ hexOf body ∷ [])
+    (omega (arith, length-tabbed-two (numeralOf n) (hexOf body), numeral-length n, hex-length body))

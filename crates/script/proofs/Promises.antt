@@ -1,6 +1,5 @@
 -- What the rule of a run promises ("01, The script and one whole run"): a text may come in pieces, an end is an end, and a run goes on; before
--- an accepted format every well-formed call but format answers 1, and a refused line leaves everything. Assumes nothing; `run-whole` is given
--- how long an answer is at most.
+-- an accepted format every well-formed call but format answers 1, and a refused line leaves everything. Assumes nothing.
 use Prim.Native.Nat.{ℕ, zero, suc, _+_, _-_, _*_, _≤_, _<_}
 use native.Mathlib.Omega.{arith}
 use mathlib.Core.Path.{_≡_, refl, sym, ap, subst⁻¹, _∙_}
@@ -34,6 +33,7 @@ use Rattle.line.specs.declared.Call.{Call}
 use Rattle.line.specs.Line.{callOf, callIn as saidIn, ill, fields, longest as longestLine}
 use Rattle.reply.specs.Reply.{longest as longestAnswer}
 use Rattle.playing.specs.Playing.{Turn, lineOf, formatTurn, openTurn, sealTurn, beginTurn, nextTurn, insertTurn, updateTurn, deleteTurn, readTurn, commitTurn, withdrawTurn, sweepTurn, illTurn, turnOf, playRule}
+use Rattle.playing.proofs.Lengths.{answer-most}
 use Rattle.script.specs.declared.Station.{Station}
 use Rattle.script.specs.Script.{lent, isFormat, dataLent, undoLent, Carried, carried, turnIn, stepped, callIn, sixteen, answers, output, Run, ran, inLine, lined, restOf, rested, full, runLines, runRule, lentTo}
 use Rattle.script.proofs.Runs.{full-no, run-full, run-next, run-last}
@@ -314,8 +314,12 @@ end-of s n = by (eqb n 0) (s .long) refl refl
     by true true e f = (refl, refl)
     by false b e f = (refl, refl)
 
--- given that no answer is longer than 88 bytes, which is not shown here of the rules
-module _ (fits : (k : Carried) (c : Call) → length (lineOf (turnIn k c)) ≤ longestAnswer) (room : ℕ) where
+-- no answer is longer than 88 bytes
+turn-fits : (k : Carried) (c : Call) → length (lineOf (turnIn k c)) ≤ longestAnswer
+unfolding turnIn
+turn-fits k c = answer-most (lentTo k c) (k .station .desk) c
+
+module _ (room : ℕ) where
   abbrev Whole : Run → Run → List ℕ → Type 0
   Whole r w s = (w .taken ≡ r .taken + length s) × (w .on .station .long ≡ false)
 
@@ -353,7 +357,7 @@ module _ (fits : (k : Carried) (c : Call) → length (lineOf (turnIn k c)) ≤ l
           (λ (l : length (before 10 s) < length s).
           whole-next r s free l
           (ih (omega (arith, l, h, length-drop (length (before 10 s) + 1) s))
-          (omega (arith, l, enough, length-drop (length (before 10 s) + 1) s, length-append (r .said) (lineOf (turnIn (r .on) (callIn (r .on) (before 10 s)))), fits (r .on) (callIn (r .on) (before 10 s))))))
+          (omega (arith, l, enough, length-drop (length (before 10 s) + 1) s, length-append (r .said) (lineOf (turnIn (r .on) (callIn (r .on) (before 10 s)))), turn-fits (r .on) (callIn (r .on) (before 10 s))))))
           (λ (l : length s ≤ length (before 10 s)). whole-last r s free (omega (arith, l, before-length 10 s)))
           (lt-or-le (length (before 10 s)) (length s))
 

@@ -1,7 +1,7 @@
 -- Lines one after the other are calls one after the other on the world behind them; so from an accepted format on they are a run of
 -- history. Assumes nothing.
 use mathlib.Core.Path.{_≡_, refl, sym, ap, ap₂, subst, _∙_}
-use mathlib.Core.Bool.{Bool, true, false, _||_, cond}
+use mathlib.Core.Bool.{Bool, true, false, _||_, cond, or-true}
 use mathlib.Core.Logic.{_⊎_, inl, inr}
 use mathlib.Core.Option.{Option, none, some}
 use mathlib.Core.List.{List, [], _∷_, _++_, append-assoc}
@@ -12,11 +12,12 @@ use Rattle.ground.proofs.Ranges.{and-true-left, and-true-right}
 use Rattle.little.specs.Little.{Bytes}
 use Rattle.little.proofs.AllBytes.{bytes-zeros}
 use Rattle.kind.specs.Areas.{Areas}
-use Rattle.machine.specs.Table.{Body, History}
-use Rattle.machine.specs.Lines.{Call, format, isDone, heard, historyFrom}
-use Rattle.machine.proofs.Basics.{true-false}
-use Rattle.history.specs.World.{World, answered, step, says, after, afterAll, linesOf}
+use Rattle.machine.specs.Table.{Body}
+use Rattle.machine.specs.Lines.{Call, format, isDone}
+use Rattle.history.specs.World.{World, answered, step, after, afterAll}
 use Rattle.history.specs.Asked.{AllProper}
+use Rattle.history.specs.Since.{accepted as acceptedIn, formats as formatsIn, Since}
+use Rattle.history.proofs.Since.{since}
 use Rattle.line.specs.declared.Verb.{Verb}
 use Rattle.line.specs.declared.Verb.the-variants.{Format, Open, Seal, Begin, Next, Insert, Update, Delete, Read, Commit, Withdraw, Sweep, IllFormed}
 use Rattle.line.specs.declared.Call.{Call as Said}
@@ -24,7 +25,7 @@ use Rattle.line.specs.Line.{callOf, call, ill, Proper}
 use Rattle.line.proofs.Said.{line-proper}
 use Rattle.playing.specs.Playing.{lineOf, formatTurn, playRule}
 use Rattle.script.specs.Script.{isFormat, Carried, turnIn, stepped, callIn, answers, lentTo}
-use Rattle.scripted.specs.Scripted.{worldIn, callBy, made, afterLine, onward, saidBy, madeIn, printedAll, andThen, callsIn, historyIn, accepted, formats, Since}
+use Rattle.scripted.specs.Scripted.{worldIn, callBy, made, afterLine, onward, saidBy, madeIn, printedAll, andThen, callsIn, historyIn, accepted, formats}
 use Rattle.scripted.proofs.Steps.{only-format, line-step}
 
 -- ---- the world
@@ -109,77 +110,48 @@ all-proper (l ∷ ls) k =
 
 -- ---- from an accepted format
 
--- what is known after a line and what was known before it
-abbrev heardOf : History → World → Option Call → History
-heardOf h w none = h
-heardOf h w (some c) = heard h c (says w c)
-
-first-heard : (h : History) (w : World) (o : Option Call) (cs : List Call)
-    → historyFrom (heardOf h w o) (linesOf (afterLine w o) cs) ≡ historyFrom h (linesOf w (andThen o cs))
-first-heard h w none cs = refl
-first-heard h w (some c) cs = refl
-
--- what is known after lines, and what was known before them
-abbrev Then : History → Carried → List (List ℕ) → Type 0
-Then h k ls = Since (worldIn (onward k ls)) (historyFrom h (linesOf (worldIn k) (callsIn k ls)))
-
--- the lines behind an accepted format
-module _ (h : History) (k : Carried) (ls : List (List ℕ)) where
-  -- on what is carried on from a line, with its call before the others
-  abbrev Behind : Said → Type 0
-  Behind c = Since (worldIn (onward (stepped k c) ls)) (historyFrom h (linesOf (worldIn k) (andThen (made k c) (callsIn (stepped k c) ls))))
-
-  behind-format : (x y : ℕ) (body : Body) → turnIn k (call Format x y body) .code ≡ 0 → Behind (call Format x y body)
+-- a line that is an accepted format makes one on the world behind it
+module _ (k : Carried) (cs : List Call) where
+  formats-here : (x y : ℕ) (body : Body) → turnIn k (call Format x y body) .code ≡ 0
+      → formatsIn (worldIn k) (andThen (made k (call Format x y body)) cs) ≡ true
   unfolding step turnIn playRule formatTurn
-  behind-format x y body code = record {
-    run = record {
-      before = worldIn k;
-      «data» = a .«data»;
-      undo = a .undo;
-      status = a .status;
-      formatted = ap (λ (n : ℕ). isDone (answered n 0 0 [])) code;
-      calls = cs;
-      proper = all-proper ls (stepped k c);
-    };
-    ends = sym (world-lines ls (stepped k c) ∙ ap (λ (w : World). afterAll w cs) (line-step k c .0));
-    happened = sym (ap (λ (n : ℕ). historyFrom (heard h asks (answered n 0 0 [])) (linesOf (after (worldIn k) asks) cs)) code);
-  }
+  formats-here x y body code =
+      ap (λ (n : ℕ). isDone (answered n 0 0 []) || formatsIn (after (worldIn k) (format (a .«data») (a .undo) (a .status))) cs) code
     where
-      c : Said
-      c = call Format x y body
-
       a : Areas
-      a = lentTo k c
+      a = lentTo k (call Format x y body)
 
-      asks : Call
-      asks = format (a .«data») (a .undo) (a .status)
+  formats-now : (v : Verb) (x y : ℕ) (body : Body) → isFormat v ≡ true → turnIn k (call v x y body) .code ≡ 0
+      → formatsIn (worldIn k) (andThen (made k (call v x y body)) cs) ≡ true
+  formats-now v x y body f =
+      subst (λ (v : Verb). turnIn k (call v x y body) .code ≡ 0 → formatsIn (worldIn k) (andThen (made k (call v x y body)) cs) ≡ true)
+      (sym (only-format v f)) (formats-here x y body)
 
-      cs : List Call
-      cs = callsIn (stepped k c) ls
+-- or a later one does
+formats-later : (w : World) (o : Option Call) (cs : List Call) → formatsIn (afterLine w o) cs ≡ true → formatsIn w (andThen o cs) ≡ true
+formats-later w none cs e = e
+formats-later w (some c) cs e = ap (λ (b : Bool). acceptedIn w c || b) e ∙ or-true (acceptedIn w c)
 
-  behind-accepted : (v : Verb) (x y : ℕ) (body : Body) → isFormat v ≡ true → turnIn k (call v x y body) .code ≡ 0 → Behind (call v x y body)
-  behind-accepted v x y body f =
-      subst (λ (v : Verb). turnIn k (call v x y body) .code ≡ 0 → Behind (call v x y body)) (sym (only-format v f)) (behind-format x y body)
-
-since : (ls : List (List ℕ)) (k : Carried) (h : History) → formats k ls ≡ true → Then h k ls
-since [] k h e = true-false false e refl
-since (l ∷ ls) k h e = go (accepted k c) refl (since ls (stepped k c) (heardOf h (worldIn k) (made k c))) e
+formats-calls : (ls : List (List ℕ)) (k : Carried) → formats k ls ≡ true → formatsIn (worldIn k) (callsIn k ls) ≡ true
+formats-calls [] k e = e
+formats-calls (l ∷ ls) k e = by (accepted k c) refl e (formats-calls ls (stepped k c))
   where
     c : Said
     c = callIn k l
 
-    go : (b : Bool) → accepted k c ≡ b
-        → (formats (stepped k c) ls ≡ true → Then (heardOf h (worldIn k) (made k c)) (stepped k c) ls)
-        → b || formats (stepped k c) ls ≡ true → Then h k (l ∷ ls)
-    go true f ih e =
-        behind-accepted h k ls (c .verb) (c .first) (c .second) (c .body) (and-true-left (isFormat (c .verb)) (eqb (turnIn k c .code) 0) f)
+    by : (b : Bool) → accepted k c ≡ b → (b || formats (stepped k c) ls) ≡ true
+        → (formats (stepped k c) ls ≡ true → formatsIn (worldIn (stepped k c)) (callsIn (stepped k c) ls) ≡ true)
+        → formatsIn (worldIn k) (andThen (made k c) (callsIn (stepped k c) ls)) ≡ true
+    by true f e ih =
+        formats-now k (callsIn (stepped k c) ls) (c .verb) (c .first) (c .second) (c .body)
+        (and-true-left (isFormat (c .verb)) (eqb (turnIn k c .code) 0) f)
         (eqb-true (turnIn k c .code) 0 (and-true-right (isFormat (c .verb)) (eqb (turnIn k c .code) 0) f))
-    go false f ih e =
-        subst (Since (worldIn (onward k (l ∷ ls))))
-        (ap (λ (w : World). historyFrom (heardOf h (worldIn k) (made k c)) (linesOf w (callsIn (stepped k c) ls))) (line-step k c .0)
-        ∙ first-heard h (worldIn k) (made k c) (callsIn (stepped k c) ls))
-        (ih e)
+    by false f e ih =
+        formats-later (worldIn k) (made k c) (callsIn (stepped k c) ls)
+        (ap (λ (w : World). formatsIn w (callsIn (stepped k c) ls)) (sym (line-step k c .0)) ∙ ih e)
 
 -- lines of which one is an accepted format are a run of history, with the history that they say
 pub script-run : (k : Carried) (ls : List (List ℕ)) → formats k ls ≡ true → Since (worldIn (onward k ls)) (historyIn k ls)
-script-run k ls e = since ls k [] e
+script-run k ls e =
+    subst (λ (w : World). Since w (historyIn k ls)) (sym (world-lines ls k))
+    (since (worldIn k) (callsIn k ls) (all-proper ls k) (formats-calls ls k e))

@@ -1,31 +1,37 @@
--- What a script's lines promise: an ill-formed line prints 16 and leaves the world; behind an accepted format a read prints the body that
+-- What a script's lines promise: an ill-formed line prints 16 and leaves the world; before an accepted format every call prints 1; behind an accepted format a read prints the body that
 -- the history alone says, with a count, or 7 where it says none. Assumes nothing.
 use Prim.Native.Nat.{ℕ, _/_, _≤_, _<_}
 use native.Mathlib.Omega.{arith}
 use mathlib.Core.Path.{_≡_, refl, sym, ap, subst, subst₂, _∙_}
-use mathlib.Core.Bool.{Bool, true, false, cond}
+use mathlib.Core.Bool.{Bool, true, false, _||_, cond}
 use mathlib.Core.Option.{Option, none, some}
 use mathlib.Core.List.{List, [], _∷_}
 use lib.ListN.{length}
 use Rattle.little.proofs.AllBytes.{bytes-zeros}
 use Rattle.sessions.proofs.Changes.{isOpen-open}
 use Rattle.kind.specs.Kind.{rows}
+use Rattle.kind.specs.Areas.{Areas}
 use Rattle.kind.proofs.Lengths.{all-lent}
 use Rattle.machine.specs.Table.{Body, History, plainTable, openIn}
 use Rattle.machine.specs.Lines.{Answer, read}
 use Rattle.machine.proofs.Basics.{true-false}
 use Rattle.history.specs.World.{World, says}
-use Rattle.history.specs.Asked.{history, Answers}
+use Rattle.history.specs.Asked.{Answers}
+use Rattle.history.specs.Since.{Since}
 use Rattle.history.proofs.Runs.{Stands, stands-end}
-use Rattle.history.proofs.Promises.{opened-is, reading}
+use Rattle.history.proofs.Promises.{opened-is}
+use Rattle.history.proofs.Since.{since-reading}
 use Rattle.line.specs.declared.Verb.{Verb}
 use Rattle.line.specs.declared.Verb.the-variants.{Read, IllFormed}
 use Rattle.line.specs.declared.Call.{Call as Said}
 use Rattle.line.specs.Line.{callOf, call, ill, noBody, Proper, lineOf as written}
 use Rattle.line.proofs.Back.{call-back}
 use Rattle.playing.specs.Playing.{lineOf}
-use Rattle.script.specs.Script.{Carried, turnIn, stepped, callIn, sixteen, answers, lentTo}
-use Rattle.scripted.specs.Scripted.{worldIn, callBy, lineFor, afterLine, printed, onward, historyIn, formats, Since, Prints, ScriptReading, OutputReading}
+use Rattle.reply.specs.Reply.{answerLine}
+use Rattle.reply.proofs.Sayings.{answer-refused}
+use Rattle.script.specs.Script.{Carried, carried, turnIn, stepped, callIn, sixteen, answers, lentTo, dataLent, inLine, freshStation}
+use Rattle.script.proofs.Promises.{fresh-one, refused-leaves}
+use Rattle.scripted.specs.Scripted.{worldIn, callBy, lineFor, afterLine, printed, onward, historyIn, accepted, formats, BeforeFormat, Prints, ScriptReading, OutputReading}
 use Rattle.scripted.proofs.Steps.{line-step}
 use Rattle.scripted.proofs.Histories.{answers-behind, script-run}
 
@@ -37,16 +43,44 @@ line-ill k c e = (
   line-step k c .1 ∙ ap (λ (v : Verb). printed (worldIn k) (callBy v (lentTo k c) (c .first) (c .second) (c .body))) e,
 )
 
--- ---- a read
+-- ---- before an accepted format
 
--- the theorem of reading, of a world that lines lead to
-module _ (w : World) (h : History) (s : Since w h) (n : ℕ) (o : openIn h n ≡ true) (r : ℕ) (inside : r < rows (w .held .«data»)) where
-  answered : Answers (plainTable h n r) (says w (read n r))
-  answered =
-      subst (λ (h : History). openIn h n ≡ true → Answers (plainTable h n r) (says w (read n r))) (s .happened)
-      (λ o. subst (λ (w : World). r < rows (w .held .«data») → Answers (plainTable (history (s .run)) n r) (says w (read n r))) (s .ends)
-      (reading (s .run) n o r) inside)
-      o
+-- nothing is lent as long as none is accepted, and no line has been found too long where each has ended
+abbrev Before : Carried → Type 0
+Before k = (k .station .«data» ≡ 0) × (k .station .long ≡ false)
+
+none-named : (ls : List (List ℕ)) (k : Carried) → Before k → formats k ls ≡ false → Before (onward k ls)
+unfolding stepped
+none-named [] k e f = e
+none-named (l ∷ ls) k e f = by (accepted k (callIn k l)) refl f (none-named ls (stepped k (callIn k l)))
+  where
+    by : (b : Bool) → accepted k (callIn k l) ≡ b → (b || formats (stepped k (callIn k l)) ls) ≡ false
+        → (Before (stepped k (callIn k l)) → formats (stepped k (callIn k l)) ls ≡ false → Before (onward (stepped k (callIn k l)) ls))
+        → Before (onward (stepped k (callIn k l)) ls)
+    by true q f ih = true-false true refl f
+    by false q f ih =
+        ih (ap (λ (b : Bool). cond b (dataLent (callIn k l) (k .station) (k .lent .«data»)) (k .station .«data»)) q ∙ e .0, refl) f
+
+before : (a : Areas) (ls : List (List ℕ)) → formats (carried freshStation a) ls ≡ false → Before (onward (carried freshStation a) ls)
+unfolding freshStation
+before a ls f = none-named ls (carried freshStation a) (refl, refl) f
+
+pub before-format : BeforeFormat
+before-format a ls f c v g = (
+  answer-refused (turnIn k c .code) (turnIn k c .fields) some ∙ ap (λ (n : ℕ). answerLine n []) one,
+  refused-leaves k c some ∙ ap (λ (b : Bool). carried (inLine b (k .station)) (k .lent)) (sym (before a ls f .1)),
+)
+  where
+    k : Carried
+    k = onward (carried freshStation a) ls
+
+    one : turnIn k c .code ≡ 1
+    one = fresh-one k c (before a ls f .0) v g .0
+
+    some : turnIn k c .code ≡ 0 → ⊥
+    some e = omega (arith, one, e)
+
+-- ---- a read
 
 -- what is answered is printed
 prints : (n r : ℕ) (b : Option Body) (a : Answer) → Answers b a → Prints b (lineFor (read n r) a)
@@ -69,7 +103,7 @@ script-reading k ls f n o r inside l e =
     subst (λ (c : Said). Prints (plainTable (historyIn k ls) n r) (lineOf (turnIn (onward k ls) c))) (sym said)
     (subst (Prints (plainTable (historyIn k ls) n r)) (sym (line-step (onward k ls) (call Read n r noBody) .1))
     (prints n r (plainTable (historyIn k ls) n r) (says (worldIn (onward k ls)) (read n r))
-    (answered (worldIn (onward k ls)) (historyIn k ls) (script-run k ls f) n o r inside)))
+    (since-reading (worldIn (onward k ls)) (historyIn k ls) (script-run k ls f) n o r inside)))
   where
     said : callIn (onward k ls) l ≡ call Read n r noBody
     said = ap (λ (b : Bool). cond b ill (callOf l)) (ended ls k f) ∙ e

@@ -11,7 +11,6 @@ use Rattle.kind.specs.Areas.{Areas}
 use Rattle.machine.specs.Table.{Body, History, plainTable, openIn}
 use Rattle.machine.specs.Lines.{Call, format, opens, seal, begin, next, insert, update, delete, read, commit, withdraw, sweep, Answer, refused, done, historyOf}
 use Rattle.history.specs.World.{World, world, says, after, linesOf}
-use Rattle.history.specs.Asked.{Run, end, history}
 use Rattle.span.specs.Span.{parts}
 use Rattle.numeral.specs.Numeral.{numeralOf, hexOf}
 use Rattle.line.specs.declared.Verb.{Verb}
@@ -20,7 +19,7 @@ use Rattle.line.specs.declared.Call.{Call as Said}
 use Rattle.line.specs.Line.{callOf, call, ill, noBody}
 use Rattle.reply.specs.Reply.{answerLine}
 use Rattle.playing.specs.Playing.{lineOf}
-use Rattle.script.specs.Script.{isFormat, Carried, lentTo, turnIn, stepped, callIn, sixteen, answers, output}
+use Rattle.script.specs.Script.{isFormat, Carried, carried, lentTo, turnIn, stepped, callIn, sixteen, answers, output, freshStation}
 
 -- ---- one line
 
@@ -127,11 +126,13 @@ abbrev pub formats : Carried → List (List ℕ) → Bool
 formats k [] = false
 formats k (l ∷ ls) = accepted k (callIn k l) || formats (stepped k (callIn k l)) ls
 
--- calls from an accepted format, as history has them, that end in world w with history h
-pub record Since (w : World) (h : History) : Type 0 where
-  pub run : Run
-  pub ends : end run ≡ w
-  pub happened : history run ≡ h
+-- "Before an accepted format every well-formed call but format answers 1": behind any lines of a script of which none is an accepted
+-- format, such a line prints 1, and what is carried on is as it was
+abbrev pub BeforeFormat : Type 0
+BeforeFormat = (a : Areas) (ls : List (List ℕ)) → formats (carried freshStation a) ls ≡ false
+    → (c : Said) → isFormat (c .verb) ≡ false → (c .verb ≡ IllFormed → ⊥)
+    → (lineOf (turnIn (onward (carried freshStation a) ls) c) ≡ answerLine 1 [])
+    × (stepped (onward (carried freshStation a) ls) c ≡ onward (carried freshStation a) ls)
 
 -- ---- what a read should print
 

@@ -1,5 +1,5 @@
 -- What the contract of sweep promises ("01, Writes, withdrawal, sweep", "01, When the desk says no"). Assumes nothing.
-use mathlib.Core.Path.{_≡_, refl}
+use mathlib.Core.Path.{_≡_, refl, ap}
 use mathlib.Core.Logic.{_⊎_}
 use mathlib.Core.Bool.{Bool, true, false, cond}
 use Prim.Native.Nat.{ℕ, _+_, _-_, _≤_, _<_}
@@ -9,19 +9,30 @@ use borrow.Author.Tests.{ltb-true, ltb-false}
 use Rattle.ground.specs.Does.{Does}
 use Rattle.ground.proofs.Once.{once}
 use Rattle.ground.proofs.Refusals.{settled}
+use Rattle.answer.proofs.Codes.{codeOf-injective}
 use Rattle.little.specs.Little.{Bytes}
 use Rattle.desk.specs.declared.Desk.{Desk}
 use Rattle.desk.specs.Turns.{mark}
 use Rattle.kind.specs.Kind.{rows}
 use Rattle.kind.specs.Areas.{Areas, areas, both}
-use Rattle.sweeping.specs.Sweeping.{treated, heldFrom, sweepRefusal, swept, sweepRule}
+use Rattle.sweeping.specs.declared.Swept.{Swept}
+use Rattle.sweeping.specs.Sweeping.{saidSwept, treated, heldFrom, sweepRefusal, swept, sweepRule}
 use Rattle.sweeping.proofs.Treats.{Same, rows-other}
 
 module _ (a : Areas) (d : Desk) (first quota : ℕ) where
   -- no second result meets the contract
-  pub sweep-once : {r r′ : ℕ × ℕ × ℕ} {x x′ : Areas} → Does (sweepRule a d first quota) r x → Does (sweepRule a d first quota) r′ x′
+  pub sweep-once : (r r′ : Swept) (x x′ : Areas)
+      → Does (sweepRule a d first quota) (saidSwept r) x
+      → Does (sweepRule a d first quota) (saidSwept r′) x′
       → (r ≡ r′) × (x ≡ x′)
-  sweep-once p q = once p q
+  sweep-once r r′ x x′ p q = let o = once p q in (same (o .0), o .1)
+    where
+      same : saidSwept r ≡ saidSwept r′ → r ≡ r′
+      same e =
+          let b : r .answer ≡ r′ .answer = codeOf-injective (r .answer) (r′ .answer) (ap (λ (n : ℕ × ℕ × ℕ). n .0) e) in
+          let n : r .next ≡ r′ .next = ap (λ (n : ℕ × ℕ × ℕ). n .1) e in
+          let k : r .removed ≡ r′ .removed = ap (λ (n : ℕ × ℕ × ℕ). n .2) e in
+          λ i. record { answer = b i; next = n i; removed = k i }
 
   -- how many rows are treated, and what is answered and left where nothing is refused
   abbrev n : ℕ

@@ -39,7 +39,7 @@ body-field-requires c κs =
     let start = c .before .before .before .before .before .before .before .before in
     let field = c .before .before .before .number .ensures in (
       start .pre .0,
-      omega (arith, simp length-set at (number-within (start .args .n) (omega arith) field)),
+      omega (arith, simp length-set at (number-within (start .args .n) field)),
     )
 
 end-requires : tie.Need-end-requires
@@ -50,7 +50,7 @@ end-requires c κs =
     let start = first .before .before .before .before .before in
     omega (
       arith,
-      simp length-set at (number-within (start .args .n) (omega arith) (first .number .ensures)),
+      simp length-set at (number-within (start .args .n) (first .number .ensures)),
       body-within (start .args .body .now) (start .pre .0) (second .body-field .ensures),
     )
 

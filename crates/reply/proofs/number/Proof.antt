@@ -26,7 +26,7 @@ put-number-requires c κs = simp length-set (omega arith)
 add-result-2 : tie.Need-add-result-2
 add-result-2 c =
     let start = c .before .before .before .before .before in
-    omega (arith, numeral-length (start .args .n) (omega arith), c .before .before .put-number .ensures .0)
+    omega (arith, numeral-length (start .args .n), c .before .before .put-number .ensures .0)
 
 same-length : tie.Need-same-length
 same-length c = ap length (c .before .before .put-number .ensures .1) ∙ simp (length-sets, length-set)
@@ -37,7 +37,7 @@ returns c =
     let call = c .before .before .put-number in
     says-as (sym (tabbed-one (numeralOf (start .args .n))))
     (says-append (says-byte 9 (start .args .at) (start .args .out .now) (omega (arith, start .pre)))
-    (record { ends = ap (λ (n : ℕ). start .args .at + 1 + n) (call .ensures .0); leaves = call .ensures .1; within = simp length-set (omega (arith, numeral-length (start .args .n) (omega arith), call .ensures .0, start .pre)) }))
+    (record { ends = ap (λ (n : ℕ). start .args .at + 1 + n) (call .ensures .0); leaves = call .ensures .1; within = simp length-set (omega (arith, numeral-length (start .args .n), call .ensures .0, start .pre)) }))
 
 pub number-spec : {M : Type 1} → statement M
 number-spec =

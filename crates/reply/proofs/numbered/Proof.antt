@@ -38,7 +38,7 @@ unfolding longest
 end-requires c κs =
     let start = c .before .before .before .before .before .before .before in
     let field = c .before .before .before .number .ensures in
-    omega (arith, simp length-set at (number-within (start .args .n) (omega arith) field))
+    omega (arith, simp length-set at (number-within (start .args .n) field))
 
 same-length-2 : tie.Need-same-length-2
 same-length-2 c =

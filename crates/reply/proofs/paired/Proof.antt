@@ -38,7 +38,7 @@ unfolding longest
 number-requires-2 c κs =
     let start = c .before .before .before .before .before .before .before in
     let field = c .before .before .before .number .ensures in
-    omega (arith, simp length-set at (number-within (start .args .n) (omega arith) field))
+    omega (arith, simp length-set at (number-within (start .args .n) field))
 
 end-requires : tie.Need-end-requires
 unfolding longest
@@ -48,8 +48,8 @@ end-requires c κs =
     let start = first .before .before .before .before in
     omega (
       arith,
-      simp length-set at (number-within (start .args .n) (omega arith) (first .number .ensures)),
-      number-within (start .args .m) (omega arith) (second .number2 .ensures),
+      simp length-set at (number-within (start .args .n) (first .number .ensures)),
+      number-within (start .args .m) (second .number2 .ensures),
     )
 
 same-length-2 : tie.Need-same-length-2

@@ -18,14 +18,14 @@ add-e : tie.Need-add-e
 unfolding longest
 add-e c =
     let start = c .before .before .before .before .before in
-    omega (arith, numeral-length (start .args .code) (omega arith), c .before .before .put-number .ensures .0)
+    omega (arith, numeral-length (start .args .code), c .before .before .put-number .ensures .0)
 
 end-requires : tie.Need-end-requires
 unfolding longest
 end-requires c κs =
     let start = c .before .before .before .before .before .before in
     let call = c .before .before .before .put-number in
-    omega (arith, numeral-length (start .args .code) (omega arith), call .ensures .0)
+    omega (arith, numeral-length (start .args .code), call .ensures .0)
 
 same-length : tie.Need-same-length
 same-length c = search needs
@@ -37,7 +37,7 @@ returns c =
     let call = c .before .before .before .before .before .before .put-number in
     says-as (sym (answer-plain (start .args .code)))
     (says-append {a = numeralOf (start .args .code)}
-    (record { ends = ap (λ (n : ℕ). start .args .at + n) (call .ensures .0); leaves = call .ensures .1; within = omega (arith, numeral-length (start .args .code) (omega arith), call .ensures .0, start .pre) })
+    (record { ends = ap (λ (n : ℕ). start .args .at + n) (call .ensures .0); leaves = call .ensures .1; within = omega (arith, numeral-length (start .args .code), call .ensures .0, start .pre) })
     (c .before .before .end .ensures))
 
 pub plain-spec : {M : Type 1} → statement M

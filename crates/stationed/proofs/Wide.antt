@@ -1,0 +1,86 @@
+-- No word of a sound desk is above 65,535: next and the numbers are at most 32,576, statements at most 65,535, members below a number. Assumes
+-- nothing.
+use Prim.Native.Nat.{ℕ, _+_, _-_, _*_, _/_, _%_, _≤_, _<_}
+use native.Mathlib.Omega.{arith}
+use mathlib.Core.Path.{_≡_, refl, sym, ap, _∙_}
+use mathlib.Core.Logic.{_⊎_, inl, inr}
+use mathlib.Core.Bool.{Bool, true, false, _&&_, _||_}
+use mathlib.Core.List.{List}
+use lib.ListN.{getD, take, drop}
+use lib.Seq.{getD-take, getD-drop}
+use lib.Dec.{eqb, ltb}
+use borrow.Author.Tests.{eqb-true, ltb-true}
+use Rattle.ground.proofs.Ranges.{lt-or-le, and-true-left, all-at}
+use Rattle.places.specs.Places.{follows, placed, ascending}
+use Rattle.desk.specs.declared.Desk.{Desk}
+use Rattle.desk.specs.Sound.{sound}
+use Rattle.sessions.proofs.Changes.{sound-parts, sound-statement}
+use Rattle.sessions.proofs.Lists.{sound-list}
+use Rattle.words.specs.Words.{deskIn}
+use Rattle.stationed.specs.Stationed.{WideUnsound}
+
+-- a place of a run that ascends below a top is at most that top
+placed-most : (top : ℕ) (l : List ℕ) (at n : ℕ) → ascending top l at n ≡ true → (i : ℕ) → i < n → getD l (at + i) 0 ≤ top
+unfolding ascending placed
+placed-most top l at n up i h = by (eqb (getD l (at + i) 0) 0) refl (all-at (placed top l at) n up i h)
+  where
+    by : (b : Bool) → eqb (getD l (at + i) 0) 0 ≡ b → (b || (ltb (getD l (at + i) 0) top && follows l at i)) ≡ true → getD l (at + i) 0 ≤ top
+    by true q e = omega (arith, eqb-true (getD l (at + i) 0) 0 q)
+    by false q e = omega (arith, ltb-true (getD l (at + i) 0) top (and-true-left (ltb (getD l (at + i) 0) top) (follows l at i) e))
+
+module _ (d : Desk) (s : sound d ≡ true) where
+  numbers-most : (k : ℕ) → k < 16 → getD (d .numbers) k 0 ≤ 65535
+  numbers-most k h =
+      let z : 0 + k ≡ k = omega arith in
+      let at : getD (d .numbers) (0 + k) 0 ≡ getD (d .numbers) k 0 = ap (λ (i : ℕ). getD (d .numbers) i 0) z in
+      omega (arith, placed-most (d .next) (d .numbers) 0 16 (sound-parts d s .ascends) k h, sound-parts d s .last, at)
+
+  lists-most : (j : ℕ) → j < 240 → getD (d .lists) j 0 ≤ 65535
+  lists-most j h =
+      let k : ℕ = j / 15 in
+      let few : j / 15 < 16 = omega arith in
+      let z : j / 15 * 15 + j % 15 ≡ j = omega arith in
+      let at : getD (d .lists) (j / 15 * 15 + j % 15) 0 ≡ getD (d .lists) j 0 = ap (λ (i : ℕ). getD (d .lists) i 0) z in
+      omega (
+        arith,
+        placed-most (getD (d .numbers) (j / 15) 0) (d .lists) (j / 15 * 15) 15 (sound-list d s (j / 15) few) (j % 15) (omega arith),
+        numbers-most (j / 15) few,
+        at,
+      )
+
+-- word `at + k` of a column of n words that begins at `at`
+column-word : (at n : ℕ) (w : List ℕ) (k : ℕ) → k < n → getD (take n (drop at w)) k 0 ≡ getD w (at + k) 0
+column-word at n w k h = getD-take n (drop at w) k 0 h ∙ getD-drop at w k 0
+
+module _ (w : List ℕ) (s : sound (deskIn w) ≡ true) where
+  -- the word at index i, by the column that it lies in
+  from-column : (at n i : ℕ) → ((k : ℕ) → k < n → getD (take n (drop at w)) k 0 ≤ 65535) → at ≤ i → i < at + n → getD w i 0 ≤ 65535
+  from-column at n i most low high =
+      let z : at + (i - at) ≡ i = omega arith in
+      let e : getD w (at + (i - at)) 0 ≡ getD w i 0 = ap (λ (j : ℕ). getD w j 0) z in
+      omega (arith, most (i - at) (omega arith), column-word at n w (i - at) (omega arith), e)
+
+  word-most : (i : ℕ) → i < 273 → getD w i 0 ≤ 65535
+  unfolding deskIn
+  word-most i h = by (lt-or-le i 1)
+    where
+      third : (i < 33) ⊎ (33 ≤ i) → 17 ≤ i → getD w i 0 ≤ 65535
+      third (inl l) low = from-column 17 16 i (sound-statement (deskIn w) s) low l
+      third (inr l) low = from-column 33 240 i (lists-most (deskIn w) s) l h
+
+      second : (i < 17) ⊎ (17 ≤ i) → 1 ≤ i → getD w i 0 ≤ 65535
+      second (inl l) low = from-column 1 16 i (numbers-most (deskIn w) s) low l
+      second (inr l) low = third (lt-or-le i 33) l
+
+      by : (i < 1) ⊎ (1 ≤ i) → getD w i 0 ≤ 65535
+      by (inl l) =
+          let z : i ≡ 0 = omega arith in
+          omega (arith, sound-parts (deskIn w) s .last, ap (λ (j : ℕ). getD w j 0) z)
+      by (inr l) = second (lt-or-le i 17) l
+
+pub wide-unsound : WideUnsound
+wide-unsound w i h wide = by (sound (deskIn w)) refl
+  where
+    by : (b : Bool) → sound (deskIn w) ≡ b → b ≡ false
+    by true s = absurd (omega (arith, word-most w s i h, wide))
+    by false s = refl
