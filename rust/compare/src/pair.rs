@@ -42,6 +42,8 @@ impl<'e> Pair<'e> {
         answer
     }
 
+    /// The numbers are those that the engine reported: an engine behind an adapter hands on what
+    /// stands in its out array, refused or not.
     fn check_refusal(&self, call: &Call, answer: Answer) {
         assert_eq!(answer.values, [0; 3], "a refused {call:?} reports numbers");
         if let Some(difference) = self.before.difference(self.store()) {

@@ -1,5 +1,7 @@
 //! The proved store behind the safe wrapper, as an engine that the drivers can run.
 
+mod reported;
+
 use chirimok::{Desk, Refusal, Store};
 use compare::{Answer, Call, Engine};
 
@@ -18,7 +20,12 @@ impl Engine for Station {
         lent.desk = *desk.words();
         match answer {
             Ok(values) => Answer::done(values),
-            Err(refusal) => Answer::refused(refusal.number()),
+            Err(refusal) => {
+                // The numbers are those that the library wrote, and not zeros of the wrapper's.
+                let (code, values) = reported::by_library(lent, call, refusal.number());
+                assert_eq!(code, refusal.number(), "{call:?}, refused once more");
+                Answer { code, values }
+            }
         }
     }
 }
