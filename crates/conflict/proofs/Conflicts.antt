@@ -1,17 +1,18 @@
 -- What a slot says to a session that would write, by the cases of the paper, in the order of the code ("01, When the desk says no",
 -- 8 to 10). Assumes nothing.
-use mathlib.Core.Path.{_≡_, refl}
+use mathlib.Core.Path.{_≡_, refl, sym, _∙_}
 use mathlib.Core.Logic.{_⊎_, inl, inr}
 use mathlib.Core.Bool.{Bool, true, false, _&&_, _||_, cond}
 use mathlib.Core.List.{List}
 use Prim.Native.Nat.{ℕ, _<_, _≤_}
 use native.Mathlib.Omega.{arith}
 use lib.Dec.{eqb, ltb}
-use borrow.Author.Tests.{eq-eqb, ne-eqb, lt-ltb, le-ltb}
+use borrow.Author.Tests.{eqb-true, eqb-false, eq-eqb, ne-eqb, ltb-true, lt-ltb, le-ltb}
 use Rattle.desk.specs.View.{View}
 use Rattle.sight.specs.declared.Stamp.{Stamp}
 use Rattle.sight.specs.Sight.{viewOf, committed, sees, earlier, known}
 use Rattle.sight.specs.Conflict.{ofAnother, conflictOf}
+use Rattle.sight.proofs.Sights.{known-own, known-other}
 use Rattle.sight.proofs.Fronts.{FrontOf, front-sees}
 
 -- "10 if committed, else 9"
@@ -117,6 +118,21 @@ conflict-clear v s t e =
     (eqb (t .expire) (v .number))
     (committed (t .expire) s)
     e
+
+-- and where there is no expirer and the creator is known it says nothing
+pub clear-conflict : (v : View) (s : List ℕ) (t : Stamp) → eqb (t .expire) 0 ≡ true → known v s (t .create) (t .cmd) ≡ true → conflictOf v s t ≡ 0
+clear-conflict v s t none counted = go (eqb (t .create) (v .number)) refl
+  where
+    whole : t .expire ≡ 0
+    whole = eqb-true (t .expire) 0 none
+
+    go : (b : Bool) → eqb (t .create) (v .number) ≡ b → conflictOf v s t ≡ 0
+    go true e =
+        let own : t .create ≡ v .number = eqb-true (t .create) (v .number) e in
+        conflict-earlier v s t whole own (ltb-true (t .cmd) (v .statement) (sym (known-own v s (t .create) (t .cmd) own) ∙ counted))
+    go false e =
+        let other : t .create ≡ v .number → ⊥ = eqb-false (t .create) (v .number) e in
+        conflict-seen v s t whole other refl (sym (known-other v s (t .create) (t .cmd) other) ∙ counted)
 
 -- ---- two views that differ in unused places alone
 

@@ -1,3 +1,4 @@
+pub mod About
 pub mod Steps
 pub mod Worlds
 pub mod Accepts

@@ -1,31 +1,50 @@
 -- What is asked for and not refused by 01's table is done: so a store that refuses all does not meet the theorems. Assumes nothing.
 use Prim.Native.Nat.{ℕ, _≤_, _<_}
-use mathlib.Core.Path.{_≡_, refl}
-use mathlib.Core.Bool.{true, false}
-use mathlib.Core.List.{List}
+use mathlib.Core.Path.{_≡_, refl, sym, _∙_}
+use mathlib.Core.Bool.{Bool, true, false, or-false}
+use mathlib.Core.Option.{some}
+use mathlib.Core.List.{List, [], _∷_}
 use native.Mathlib.Omega.{arith}
-use lib.Dec.{ltb}
+use lib.Dec.{eqb, ltb}
 use lib.ListN.{length}
 use borrow.Author.Tests.{eqb-true, eq-eqb, ne-eqb, le-ltb}
+use Rattle.ground.specs.Refuse.{firstOf}
 use Rattle.places.specs.Open.{openCount, isOpen}
-use Rattle.kind.specs.Kind.{lengthsOk, rows}
+use Rattle.desk.specs.Turns.{viewAt}
+use Rattle.desk.specs.View.{View}
+use Rattle.kind.specs.Kind.{lengthsOk, rows, entries}
 use Rattle.records.specs.Slot.{slotAt}
-use Rattle.vacant.specs.Vacant.{lowestEmpty}
-use Rattle.vacant.proofs.Vacants.{lowestEmpty-below}
-use Rattle.keep.specs.Keep.{formatRefusal}
-use Rattle.turns.specs.Turns.{beginRefusal, commitRefusal}
-use Rattle.rows.specs.Rows.{insertRefusal}
+use Rattle.records.specs.Entry.{entryAt}
+use Rattle.chain.specs.Chain.{chainOf}
+use Rattle.vacant.specs.Vacant.{lowestEmpty, lowestFree}
+use Rattle.vacant.proofs.Vacants.{lowestEmpty-below, lowestFree-below}
+use Rattle.seeking.specs.Seeking.{noRow}
+use Rattle.seeking.proofs.Seekings.{Writable, writing}
+use Rattle.keep.specs.Keep.{formatRefusal, sealRefusal}
+use Rattle.turns.specs.Turns.{beginRefusal, nextRefusal, commitRefusal}
+use Rattle.rows.specs.Rows.{viewIn, insertRefusal, updateRefusal, deleteRefusal}
+use Rattle.rows.proofs.Accepted.{deletes, updates}
 use Rattle.undoing.specs.Undoing.{withdrawRefusal}
 use Rattle.sweeping.specs.Sweeping.{sweepRefusal}
-use Rattle.machine.specs.Lines.{Call, isDone, format, begin, insert, commit, withdraw, sweep}
+use Rattle.machine.specs.Lines.{Call, isDone, format, seal, begin, next, insert, update, delete, commit, withdraw, sweep}
+use Rattle.machine.specs.Machine.{writable}
+use Rattle.seen.specs.Seen.{standings, rowOf}
+use Rattle.seen.proofs.Knowing.{sessionOf}
 use Rattle.history.specs.World.{World, Turn, says}
 use Rattle.history.specs.Asked.{isEmpty}
 use Rattle.history.proofs.Worlds.{Good}
 use Rattle.history.proofs.Steps.{refusalOf, doneTurn, step-settled}
-use Rattle.history.proofs.Refused.{withdraws, sweeps}
+use Rattle.history.proofs.Accepts.{writable-is, may-pass}
+use Rattle.history.proofs.Writes.{view-few}
+use Rattle.history.proofs.Refused.{done-ok, withdraws, sweeps}
 
 is-done : (w : World) (c : Call) → isDone (doneTurn w c .answer) ≡ true → refusalOf w c ≡ 0 → isDone (says w c) ≡ true
 is-done w c d ok = step-settled w c (λ (t : Turn). isDone (t .answer) ≡ true) (λ e. d) (λ m e. absurd (omega (arith, e, ok)))
+
+both-ways : (a b : Bool) → (a ≡ true → b ≡ true) → (b ≡ true → a ≡ true) → a ≡ b
+both-ways true b f g = sym (f refl)
+both-ways false true f g = g refl
+both-ways false false f g = refl
 
 pub format-done : (w : World) (d u s : List ℕ) → lengthsOk (length d) (length u) (length s) ≡ true → isDone (says w (format d u s)) ≡ true
 unfolding formatRefusal
@@ -38,6 +57,10 @@ module _ (w : World) (g : Good w) where
       is-done w begin refl
       (rw (g .lengths, g .sound, ne-eqb (openCount (w .desk .numbers)) 16 (λ e. omega (arith, few, e)), ne-eqb (w .desk .next) 32576 (λ e. omega (arith, left, e))))
 
+  pub seal-done : openCount (w .desk .numbers) ≡ 0 → isDone (says w seal) ≡ true
+  unfolding sealRefusal
+  seal-done none = is-done w seal refl (rw (g .lengths, g .sound, none))
+
   pub sweep-done : (first quota : ℕ) → first ≤ rows (w .held .«data») → isDone (says w (sweep first quota)) ≡ true
   unfolding sweepRefusal
   sweep-done first quota few =
@@ -45,6 +68,12 @@ module _ (w : World) (g : Good w) where
       is-done w (sweep first quota) refl (rw (g .lengths, g .sound, inside, sweeps w g first quota inside))
 
   module _ (n : ℕ) (opened : isOpen n (w .desk .numbers) ≡ true) where
+    pub next-done : viewIn (w .desk) n .statement < 65535 → isDone (says w (next n)) ≡ true
+    unfolding nextRefusal viewAt
+    next-done few =
+        is-done w (next n) refl
+        (rw (g .lengths, g .sound, opened, ne-eqb (viewIn (w .desk) n .statement) 65535 (λ e. omega (arith, few, e))))
+
     pub commit-done : isDone (says w (commit n)) ≡ true
     unfolding commitRefusal
     commit-done = is-done w (commit n) refl (rw (g .lengths, g .sound, opened))
@@ -61,3 +90,55 @@ module _ (w : World) (g : Good w) where
       where
         room : lowestEmpty (w .held .«data») ≡ rows (w .held .«data») → ⊥
         room e = lowestEmpty-below (w .held .«data») r (omega (arith, e, inside)) (eqb-true (slotAt r (w .held .«data») .create) 0 free)
+
+    -- ---- update and delete
+
+    abbrev d : List ℕ
+    d = w .held .«data»
+
+    abbrev u : List ℕ
+    u = w .held .undo
+
+    abbrev v : View
+    v = viewIn (w .desk) n
+
+    -- the machine's session may write the row
+    abbrev may : ℕ → Bool
+    may r = writable (standings (w .held .status)) (some (sessionOf v)) (rowOf d u r)
+
+    module _ (r : ℕ) where
+      whole : r < rows d → chainOf d u r .whole ≡ true
+      whole = g .whole r
+
+      -- a write that nothing is said against is one that the machine allows
+      allowed : Writable d u (w .held .status) v r → may r ≡ true
+      allowed can = writable-is d u (w .held .status) (w .desk) v r (view-few (w .desk) n) (whole (can .inside)) can
+
+      -- behind what is asked of the row, nothing is refused
+      passes : may r ≡ true → (rest : List (Bool × ℕ)) → firstOf (writing d u (w .held .status) v r rest) ≡ firstOf rest
+      passes can rest = may-pass d u (w .held .status) (w .desk) v r (view-few (w .desk) n) whole can rest
+
+      delete-done : may r ≡ true → isDone (says w (delete n r)) ≡ true
+      unfolding deleteRefusal
+      delete-done can = is-done w (delete n r) refl (rw (g .lengths, g .sound, opened) (passes can []))
+
+      pub delete-is : isDone (says w (delete n r)) ≡ may r
+      delete-is =
+          both-ways (isDone (says w (delete n r))) (may r)
+          (λ e. allowed (deletes d u (w .held .status) (w .desk) n r (done-ok w (delete n r) e) .writable)) delete-done
+
+      module _ (b : List ℕ) (long : length b ≡ 32) (e : ℕ) (inside : e < entries u) (free : entryAt e u .writer ≡ 0) where
+        room : lowestFree u ≡ entries u → ⊥
+        room q = lowestFree-below u e (omega (arith, q, inside)) free
+
+        update-done : may r ≡ true → isDone (says w (update n r b)) ≡ true
+        unfolding updateRefusal
+        update-done can =
+            is-done w (update n r b) refl
+            (rw (g .lengths, g .sound, opened, eq-eqb (length b) 32 long, or-false (noRow d r))
+            (passes can ((eqb (lowestFree u) (entries u), 11) ∷ []) ∙ rw (ne-eqb (lowestFree u) (entries u) room)))
+
+        pub update-is : isDone (says w (update n r b)) ≡ may r
+        update-is =
+            both-ways (isDone (says w (update n r b))) (may r)
+            (λ f. allowed (updates d u (w .held .status) (w .desk) n r b (done-ok w (update n r b) f) .writable)) update-done

@@ -1,39 +1,45 @@
--- The six theorems of demand 3 and the law under them, as specs/Theorems.antt states them. Assumes nothing.
+-- The six theorems of demand 3 and the law under them, as specs/Theorems.antt states them, and those of specs/Observers.antt that go by
+-- them. Assumes nothing.
 use Prim.Native.Nat.{ℕ, _≤_, _<_}
 use mathlib.Core.Path.{_≡_, refl, ap, sym, subst, _∙_}
-use mathlib.Core.Logic.{⊎-elim}
-use mathlib.Core.Bool.{Bool, true, false, cond}
+use mathlib.Core.Logic.{_⊎_, inl, inr, ⊎-elim}
+use mathlib.Core.Bool.{Bool, true, false, not, _&&_, _||_, cond}
 use mathlib.Core.Option.{Option, none, some}
 use mathlib.Core.List.{List, [], _∷_}
 use native.Mathlib.Omega.{arith}
-use lib.ListN.{length}
-use borrow.Author.Tests.{le-ltb}
+use lib.Dec.{eqb, ltb}
+use lib.ListN.{length, getD}
+use borrow.Author.Tests.{eqb-true, ne-eqb, le-ltb}
 use Rattle.ground.proofs.Ranges.{lt-or-le, and-true-left, and-true-right}
-use Rattle.places.specs.Open.{isOpen}
+use Rattle.places.specs.Open.{openCount, isOpen}
+use Rattle.sessions.proofs.Changes.{getD-isOpen, open-used}
 use Rattle.kind.specs.Kind.{rows}
 use Rattle.chain.specs.Chain.{chainOf}
 use Rattle.rows.specs.Rows.{viewIn}
-use Rattle.machine.specs.Table.{Body, History, plainTable, openIn}
-use Rattle.machine.specs.Lines.{Call, read, insert, isDone, given, isWrite, spares, heard, historyFrom}
-use Rattle.machine.specs.Machine.{Machine, Session, find, isSome, reads, firstThere, knows, lookedAt}
-use Rattle.machine.proofs.Readings.{reading as reading-machine, sees-committed-before}
+use Rattle.machine.specs.Table.{Body, History, plainTable, openIn, statementOf, committedBefore, mayWrite}
+use Rattle.machine.specs.Lines.{Call, opens, seal, begin, next, insert, update, delete, read, commit, withdraw, sweep, isDone, given, isWrite, spares, heard, historyFrom}
+use Rattle.machine.specs.Machine.{Machine, Session, find, isSome, reads, firstThere, knows, lookedAt, writable}
+use Rattle.machine.proofs.Basics.{true-false}
+use Rattle.machine.proofs.Readings.{reach-both, reading as reading-machine, sees-committed-before}
+use Rattle.machine.proofs.Lasts.{counts-is, may-write}
 use Rattle.machine.proofs.Numbers.{plain-by-number}
 use Rattle.machine.proofs.Opens.{open-is}
 use Rattle.machine.proofs.Elsewhere.{plain-spared, open-spared}
-use Rattle.seen.specs.Seen.{allHeld, rowOf, openSessions}
+use Rattle.seen.specs.Seen.{standings, allHeld, rowOf, openSessions}
 use Rattle.seen.proofs.Knowing.{sessionOf, sees-is}
 use Rattle.seen.proofs.Desks.{find-open, find-closed}
 use Rattle.history.specs.World.{World, says, after, afterAll, linesOf}
-use Rattle.history.specs.Asked.{Proper, AllProper, start, end, history, allSpare, bodyRead, Answers, standingIn}
-use Rattle.history.specs.Theorems.{Reading, ReadingOutside, NothingElse, Restores, Empties, Spares, NoSix, SealedOpens, Count, RefusedLeaves, SeesExactlyWhenCommittedBefore, ByNumber, Formats, Begins, Inserts, Ends, Sweeps}
+use Rattle.history.specs.Asked.{Proper, AllProper, Run, start, end, history, allSpare, bodyRead, Answers, standingIn}
+use Rattle.history.specs.Theorems.{Reading, ReadingOutside, NothingElse, Unaltered, SweepAltersNone, KeepingAltersNone, BeginAltersNone, RowCallsAlterNone, OthersAlterNone, Restores, Empties, Spares, NoSix, SealedOpens, Count, RefusedLeaves, SeesExactlyWhenCommittedBefore, ByNumber, Formats, Begins, Nexts, Seals, Inserts, Deletes, Updates, Ends, Sweeps}
+use Rattle.history.specs.Observers.{OpenOnDesk, StatementOnDesk, BodyOfTable, StandingOfRead}
 use Rattle.history.proofs.Worlds.{seen}
 use Rattle.history.proofs.Writes.{view-few}
 use Rattle.history.proofs.Answered.{Reads, read-answers, read-outside}
 use Rattle.history.proofs.Refused.{leaves, never-6}
 use Rattle.history.proofs.Restored.{restored, inserted-empty, spared-rows}
-use Rattle.history.proofs.Counted.{all-calls, looked-few}
+use Rattle.history.proofs.Counted.{all-calls, looked-few, read-stands}
 use Rattle.history.proofs.Reopened.{opens-again}
-use Rattle.history.proofs.Progress.{format-done, begin-done, insert-done, commit-done, withdraw-done, sweep-done}
+use Rattle.history.proofs.Progress.{format-done, begin-done, next-done, seal-done, insert-done, delete-is, update-is, commit-done, withdraw-done, sweep-done}
 use Rattle.history.proofs.Runs.{goes, Stands, stands-call, stands-calls, stands-start, stands-end}
 
 -- ---- open sessions
@@ -58,6 +64,16 @@ module _ (w : World) (h : History) (s : Stands w h) (n : ℕ) where
     session-is : find n (openSessions (w .desk)) ≡ some session
     unfolding session
     session-is = find-open (w .desk) (s .good .sound) (s .good .long) n on-desk
+
+    -- its statement by the history
+    pub statement-is : viewIn (w .desk) n .statement ≡ statementOf h n
+    unfolding session
+    statement-is = reach-both (s .reach) .0 .opened n session session-is .in-step
+
+    -- what it may write there is what the history says
+    may-is : (r : ℕ) → writable (standings (w .held .status)) (some (sessionOf (viewIn (w .desk) n))) (rowOf (w .held .«data») (w .held .undo) r) ≡ mayWrite h n r
+    unfolding session
+    may-is r = may-write (s .reach) r n session session-is
 
     -- what it reads there is the plain table
     plain-is : (r : ℕ) → reads (seen w) session r ≡ plainTable h n r
@@ -114,6 +130,16 @@ sees-exactly-when-committed-before x n o y =
 pub by-number : ByNumber
 by-number x n r = plain-by-number (stands-end x .reach) n r
 
+-- where nobody is open by the history, no place of the desk is used
+closed : (w : World) (h : History) → Stands w h → ((n : ℕ) → openIn h n ≡ false) → openCount (w .desk .numbers) ≡ 0
+closed w h s nobody = ⊎-elim (λ (l : 0 < openCount (w .desk .numbers)). absurd (first l)) (λ (l : openCount (w .desk .numbers) ≤ 0). omega arith) (lt-or-le 0 (openCount (w .desk .numbers)))
+  where
+    first : 0 < openCount (w .desk .numbers) → ⊥
+    first l =
+        let n : ℕ = getD (w .desk .numbers) 0 0 in
+        true-false (openIn h n)
+        (sym (opened-is w h s n) ∙ getD-isOpen (w .desk .numbers) 0 (omega arith) (open-used (w .desk) (s .good .sound) 0 l)) (nobody n)
+
 -- ---- 2: what does not alter a reading
 
 spared : (cs : List Call) (w : World) (h : History) → Stands w h → AllProper cs → (n : ℕ) → openIn h n ≡ true → allSpare n cs ≡ true
@@ -132,6 +158,28 @@ nothing-else x n o cs p a r =
     body-is (afterAll (end x) cs) (historyFrom (history x) (linesOf (end x) cs)) (stands-calls cs (end x) (history x) s p) n (t .0) r
     ∙ t .1 r
     ∙ sym (body-is (end x) (history x) s n o r)
+
+-- one call that leaves S where it is
+one-call : (x : Run) (n : ℕ) → openIn (history x) n ≡ true → (c : Call) → Proper c → spares n c ≡ true → Unaltered x n c
+one-call x n o c p e r = nothing-else x n o (c ∷ []) (p, tt) (rw e) r
+
+pub sweep-alters-none : SweepAltersNone
+sweep-alters-none x n o first quota = one-call x n o (sweep first quota) tt refl
+
+pub keeping-alters-none : KeepingAltersNone
+keeping-alters-none x n o = (one-call x n o seal tt refl, one-call x n o opens tt refl)
+
+pub begin-alters-none : BeginAltersNone
+begin-alters-none x n o = one-call x n o begin tt refl
+
+pub row-calls-alter-none : RowCallsAlterNone
+row-calls-alter-none x n o m q b y =
+    (one-call x n o (insert m b) y refl, one-call x n o (update m q b) y refl, one-call x n o (delete m q) tt refl, one-call x n o (read m q) tt refl)
+
+pub others-alter-none : OthersAlterNone
+others-alter-none x n o m other =
+    let e : not (eqb n m) ≡ true = rw (ne-eqb n m (λ z. other (sym z))) in
+    (one-call x n o (next m) tt e, one-call x n o (commit m) tt e, one-call x n o (withdraw m) tt e)
 
 -- ---- 3: withdrawal
 
@@ -184,9 +232,27 @@ formats w d u s l = format-done w d u s l
 pub begins : Begins
 begins x few left = begin-done (end x) (stands-end x .good) few left
 
+pub nexts : Nexts
+nexts x n o few =
+    let s = stands-end x in
+    next-done (end x) (s .good) n (on-desk (end x) (history x) s n o) (omega (arith, few, statement-is (end x) (history x) s n o))
+
+pub seals : Seals
+seals x nobody = seal-done (end x) (stands-end x .good) (closed (end x) (history x) (stands-end x) nobody)
+
 pub inserts : Inserts
 inserts x n o b long r inside free =
     insert-done (end x) (stands-end x .good) n (on-desk (end x) (history x) (stands-end x) n o) b long r inside free
+
+pub deletes : Deletes
+deletes x n o r =
+    let s = stands-end x in
+    delete-is (end x) (s .good) n (on-desk (end x) (history x) s n o) r ∙ may-is (end x) (history x) s n o r
+
+pub updates : Updates
+updates x n o b long e inside free r =
+    let s = stands-end x in
+    update-is (end x) (s .good) n (on-desk (end x) (history x) s n o) r b long e inside free ∙ may-is (end x) (history x) s n o r
 
 pub ends : Ends
 ends x n o = (
@@ -196,3 +262,27 @@ ends x n o = (
 
 pub sweeps : Sweeps
 sweeps x first quota few = sweep-done (end x) (stands-end x .good) first quota few
+
+-- ---- what the words mean
+
+pub open-on-desk : OpenOnDesk
+open-on-desk x n = sym (opened-is (end x) (history x) (stands-end x) n)
+
+pub statement-on-desk : StatementOnDesk
+statement-on-desk x n o = sym (statement-is (end x) (history x) (stands-end x) n o)
+
+pub body-of-table : BodyOfTable
+body-of-table x n o r = body-is (end x) (history x) (stands-end x) n o r
+
+pub standing-of-read : StandingOfRead
+unfolding session
+standing-of-read x n r j b e =
+    let s = stands-end x in
+    let (opened, (z, is, body, counted)) = read-stands (end x) (s .good) n r j b e in
+    let o : openIn (history x) n ≡ true = sym (opened-is (end x) (history x) s n) ∙ opened in
+    let seen-by = counts-is (s .reach) n (session (end x) (history x) s n o) (session-is (end x) (history x) s n o) (z .creator) (z .creating) in
+    (z, is, body, who (z .creator) (committedBefore (history x) (z .creator) n) (ltb (z .creating) (statementOf (history x) n)) (sym seen-by ∙ counted))
+  where
+    who : (y : ℕ) (a c : Bool) → (a || (eqb y n && c)) ≡ true → (y ≡ n) ⊎ (a ≡ true)
+    who y true c e = inr refl
+    who y false c e = inl (eqb-true y n (and-true-left (eqb y n) c e))

@@ -31,7 +31,8 @@ use Rattle.putback.specs.PutBack.{ownMade}
 use Rattle.undoing.specs.Undoing.{brokenRow, someBroken, withdrawRefusal}
 use Rattle.sweeping.specs.Sweeping.{treated, allWhole, sweepRefusal}
 use Rattle.sweeping.proofs.Calls.{treats-few}
-use Rattle.machine.specs.Lines.{Call, refused, done, format, opens, seal, begin, next, insert, update, delete, read, commit, withdraw, sweep}
+use Rattle.machine.specs.Lines.{Call, refused, done, isDone, format, opens, seal, begin, next, insert, update, delete, read, commit, withdraw, sweep}
+use Rattle.machine.proofs.Basics.{true-false}
 use Rattle.history.specs.World.{World, Turn, says as answerOf, after}
 use Rattle.history.proofs.Steps.{refusalOf, doneTurn, step-settled}
 use Rattle.history.proofs.Worlds.{Good}
@@ -65,6 +66,10 @@ pub refused-as : (w : World) (c : Call) (n : ℕ) → answerOf w c ≡ refused n
 refused-as w c n =
     step-settled w c (λ (t : Turn). t .answer ≡ refused n → refusalOf w c ≡ n) (λ e f. absurd (not-refused w c n f))
     (λ m e f. e ∙ (let z : suc m ≡ n = cc in z))
+
+-- and a call that was done was refused under none
+pub done-ok : (w : World) (c : Call) → isDone (answerOf w c) ≡ true → refusalOf w c ≡ 0
+done-ok w c = step-settled w c (λ (t : Turn). isDone (t .answer) ≡ true → refusalOf w c ≡ 0) (λ ok e. ok) (λ m e f. true-false false f refl)
 
 -- ---- no 6
 

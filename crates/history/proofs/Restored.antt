@@ -28,7 +28,7 @@ use Rattle.history.proofs.Runs.{goes, Stands, stands-call, stands-calls
 
 -- ---- what stands in a row is its first version
 
-abbrev asStanding : Option First → Option Standing
+abbrev pub asStanding : Option First → Option Standing
 asStanding none = none
 asStanding (some f) = some (record { body = f .body; creator = f .creator; creating = f .creating; expirer = f .expirer })
 

@@ -7,12 +7,14 @@ use mathlib.Core.Bool.{true, false}
 use mathlib.Core.Option.{none}
 use mathlib.Core.List.{List, []}
 use lib.ListN.{length}
+use Rattle.little.specs.Little.{Bytes}
 use Rattle.places.specs.Open.{openCount}
-use Rattle.kind.specs.Kind.{lengthsOk, rows}
+use Rattle.kind.specs.Kind.{lengthsOk, rows, entries}
+use Rattle.records.specs.Entry.{entryAt}
 use Rattle.sight.specs.Sight.{sees}
 use Rattle.rows.specs.Rows.{viewIn}
-use Rattle.machine.specs.Table.{Body, plainTable, openIn, committedBefore, hasWritten, numberTable, whenBegan, writesBefore, statementOf, play}
-use Rattle.machine.specs.Lines.{Call, format, opens, seal, begin, insert, read, commit, withdraw, sweep, refused, done, isDone}
+use Rattle.machine.specs.Table.{Body, plainTable, openIn, committedBefore, hasWritten, numberTable, whenBegan, writesBefore, statementOf, play, mayWrite}
+use Rattle.machine.specs.Lines.{Call, format, opens, seal, begin, next, insert, update, delete, read, commit, withdraw, sweep, refused, done, isDone}
 use Rattle.history.specs.World.{World, says, after, afterAll}
 use Rattle.history.specs.Asked.{AllProper, Run, end, history, allSpare, bodyRead, Answers, isEmpty, standingIn, updates, Withdrawal, withdrawnWorld}
 
@@ -32,6 +34,32 @@ ReadingOutside = (x : Run) (n : ℕ) → openIn (history x) n ≡ true → (r : 
 abbrev pub NothingElse : Type 0
 NothingElse = (x : Run) (n : ℕ) → openIn (history x) n ≡ true → (cs : List Call) → AllProper cs → allSpare n cs ≡ true → (r : ℕ)
     → bodyRead (says (afterAll (end x) cs) (read n r)) ≡ bodyRead (says (end x) (read n r))
+
+-- call by call. What S reads in every row stays where this call is made
+abbrev pub Unaltered : Run → ℕ → Call → Type 0
+Unaltered x n c = (r : ℕ) → bodyRead (says (after (end x) c) (read n r)) ≡ bodyRead (says (end x) (read n r))
+
+-- a sweep of any rows
+abbrev pub SweepAltersNone : Type 0
+SweepAltersNone = (x : Run) (n : ℕ) → openIn (history x) n ≡ true → (first quota : ℕ) → Unaltered x n (sweep first quota)
+
+-- a seal, an open
+abbrev pub KeepingAltersNone : Type 0
+KeepingAltersNone = (x : Run) (n : ℕ) → openIn (history x) n ≡ true → Unaltered x n seal × Unaltered x n opens
+
+-- a begin
+abbrev pub BeginAltersNone : Type 0
+BeginAltersNone = (x : Run) (n : ℕ) → openIn (history x) n ≡ true → Unaltered x n begin
+
+-- an insert, update, delete or read of any row by anybody, S itself in its present statement included
+abbrev pub RowCallsAlterNone : Type 0
+RowCallsAlterNone = (x : Run) (n : ℕ) → openIn (history x) n ≡ true → (m q : ℕ) (b : Body) → Bytes b
+    → Unaltered x n (insert m b) × Unaltered x n (update m q b) × Unaltered x n (delete m q) × Unaltered x n (read m q)
+
+-- a next, commit or withdraw of another session
+abbrev pub OthersAlterNone : Type 0
+OthersAlterNone = (x : Run) (n : ℕ) → openIn (history x) n ≡ true → (m : ℕ) → (m ≡ n → ⊥)
+    → Unaltered x n (next m) × Unaltered x n (commit m) × Unaltered x n (withdraw m)
 
 -- 3, WITHDRAWAL gives each row that S wrote the body, creator and creating statement that it had before S's first write, and the expirer
 abbrev pub Restores : Type 0
@@ -82,10 +110,28 @@ Formats = (w : World) (d u s : List ℕ) → lengthsOk (length d) (length u) (le
 abbrev pub Begins : Type 0
 Begins = (x : Run) → openCount (end x .desk .numbers) < 16 → end x .desk .next < 32576 → isDone (says (end x) begin) ≡ true
 
+-- next, of an open session whose statement by the history is below 65,535
+abbrev pub Nexts : Type 0
+Nexts = (x : Run) (n : ℕ) → openIn (history x) n ≡ true → statementOf (history x) n < 65535 → isDone (says (end x) (next n)) ≡ true
+
+-- seal, where by the history no session is open
+abbrev pub Seals : Type 0
+Seals = (x : Run) → ((n : ℕ) → openIn (history x) n ≡ false) → isDone (says (end x) seal) ≡ true
+
 -- an insert of 32 bytes by an open session, where a row is empty
 abbrev pub Inserts : Type 0
 Inserts = (x : Run) (n : ℕ) → openIn (history x) n ≡ true → (b : Body) → length b ≡ 32 → (r : ℕ) → r < rows (end x .held .«data») → isEmpty (end x) r ≡ true
     → isDone (says (end x) (insert n b)) ≡ true
+
+-- a delete by an open session is done exactly where the history alone says that it may write the row: the row's last write that was not
+-- withdrawn gave it a body, and is of a session that committed before, or its own of an earlier statement
+abbrev pub Deletes : Type 0
+Deletes = (x : Run) (n : ℕ) → openIn (history x) n ≡ true → (r : ℕ) → isDone (says (end x) (delete n r)) ≡ mayWrite (history x) n r
+
+-- and so is an update of 32 bytes, where an entry is free
+abbrev pub Updates : Type 0
+Updates = (x : Run) (n : ℕ) → openIn (history x) n ≡ true → (b : Body) → length b ≡ 32 → (e : ℕ) → e < entries (end x .held .undo) → entryAt e (end x .held .undo) .writer ≡ 0
+    → (r : ℕ) → isDone (says (end x) (update n r b)) ≡ mayWrite (history x) n r
 
 -- commit and withdraw of an open session
 abbrev pub Ends : Type 0

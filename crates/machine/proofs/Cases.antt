@@ -2,11 +2,11 @@
 -- the gauge pieces that have no bytes in them ("01, Gauge pieces"). Assumes nothing.
 use Prim.Native.Nat.{ℕ}
 use mathlib.Core.Path.{_≡_, refl}
-use mathlib.Core.Bool.{false}
+use mathlib.Core.Bool.{true, false}
 use mathlib.Core.Option.{Option, none, some}
 use mathlib.Core.List.{List, [], _∷_, _++_}
 use lib.ListN.{length}
-use Rattle.machine.specs.Table.{Body, plainTable}
+use Rattle.machine.specs.Table.{Body, plainTable, began, wrote, committed, withdrew, lastWrite, mayWrite}
 use Rattle.machine.specs.Lines.{Call, format, read, Answer, refused, done, Line, historyOf, begin as Begin, insert as Insert, update as Update, delete as Delete, commit as Commit, withdraw as Withdraw, sweep as Sweep}
 use Rattle.machine.specs.Machine.{Version, Status, Committed, Session, Machine, empty, reads, find, mark, dead, cut, Step, begin, next, insert, update, delete, commit, sweep, accept, effect}
 
@@ -48,6 +48,13 @@ told-withdrawn : plainTable (historyOf (answers Begin (done 1 0 []) ∷ answers 
     (done 0 0 []) ∷ answers Begin (done 2 0 []) ∷ [])) 2 0 ≡ none
 unfolding answers Z
 told-withdrawn = refl
+
+-- "delete 3 0" is refused, session 4 may write the row; and so may whoever begins after a withdrawal, over what was written before it
+told-may : (mayWrite (historyOf line-by-line) 3 0 ≡ false) × (mayWrite (historyOf (line-by-line ++ rest)) 4 0 ≡ true)
+    × (lastWrite (wrote 2 0 none ∷ began 2 ∷ committed 1 ∷ wrote 1 0 (some Z) ∷ began 1 ∷ []) 0 ≡ some (record { who = 2; statement = 0; body = none }))
+    × (lastWrite (withdrew 2 ∷ wrote 2 0 none ∷ began 2 ∷ committed 1 ∷ wrote 1 0 (some Z) ∷ began 1 ∷ []) 0 ≡ some (record { who = 1; statement = 0; body = some Z }))
+unfolding answers line-by-line rest Z F
+told-may = (refl, refl, refl, refl)
 
 -- ---- the same on the machine
 

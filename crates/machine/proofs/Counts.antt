@@ -3,14 +3,16 @@
 use Prim.Native.Nat.{ℕ, suc, _≤_}
 use mathlib.Core.Path.{_≡_, refl, ap}
 use mathlib.Core.Bool.{Bool, true, false, cond}
+use mathlib.Core.Option.{some}
 use mathlib.Core.List.{List, [], _∷_}
 use native.Mathlib.Omega.{arith}
 use lib.Dec.{eqb}
 use lib.ListN.{length}
 use borrow.Author.Tests.{eqb-true}
-use Rattle.machine.specs.Table.{History, put}
-use Rattle.machine.specs.Machine.{Version, Machine, there, lookedAt, isNil, presently, expireFirst, putBack, undone, cut, mark, dead, since, Step, begin, next, insert, update, delete, commit, withdraw, sweep, effect}
+use Rattle.machine.specs.Table.{Body, History, put}
+use Rattle.machine.specs.Machine.{Version, Machine, there, firstThere, lookedAt, isNil, presently, expireFirst, putBack, undone, cut, mark, dead, since, Step, begin, next, insert, update, delete, commit, withdraw, sweep, effect}
 use Rattle.machine.specs.Runs.{start, after, Reach, oneMore, tally, updates}
+use Rattle.machine.proofs.Basics.{no-none}
 
 -- ---- what each call does to a chain's length
 
@@ -94,3 +96,23 @@ lookedAt-length p (v ∷ vs) = go (there p v) (lookedAt-length p vs)
 -- "at most 1 more than the accepted updates of that row since its slot was last empty", whatever counts for the reader
 pub count-bound : {m : Machine} {h : History} (x : Reach m h) (p : ℕ → ℕ → Bool) (r : ℕ) → lookedAt p (m .rows r) ≤ suc (updates x r)
 count-bound {m} x p r = omega (arith, lookedAt-length p (m .rows r), chain-length x r)
+
+-- a reader that looked at one version alone read the first
+pub looked-one : (p : ℕ → ℕ → Bool) (vs : List Version) (b : Body) → lookedAt p vs ≡ 1 → firstThere p vs ≡ some b
+    → (v : Version) × (ws : List Version) × (vs ≡ v ∷ ws) × (v .body ≡ b) × (there p v ≡ true)
+looked-one p [] b l e = no-none b e
+looked-one p (v ∷ vs) b l e = go (there p v) refl
+  where
+    nobody : (vs : List Version) → lookedAt p vs ≡ 0 → firstThere p vs ≡ some b → ⊥
+    nobody [] l e = no-none b e
+    nobody (w ∷ ws) l e = by (there p w) l
+      where
+        by : (t : Bool) → cond t 1 (suc (lookedAt p ws)) ≡ 0 → ⊥
+        by true l = omega arith
+        by false l = omega arith
+
+    go : (t : Bool) → there p v ≡ t → (w : Version) × (ws : List Version) × (v ∷ vs ≡ w ∷ ws) × (w .body ≡ b) × (there p w ≡ true)
+    go true f = let q : some (v .body) ≡ some b = rw f at e in (v, vs, refl, (cc), f)
+    go false f =
+        let n : suc (lookedAt p vs) ≡ 1 = rw f at l in
+        absurd (nobody vs (omega (arith, n)) (rw f at e))

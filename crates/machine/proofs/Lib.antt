@@ -1,4 +1,5 @@
 pub mod Basics
+pub mod About
 pub mod Cases
 pub mod Desks
 pub mod Chains
@@ -16,6 +17,7 @@ pub mod Counts
 pub mod Living
 pub mod Under
 pub mod Backs
+pub mod Lasts
 pub mod Follows
 pub mod Orders
 pub mod Ordered

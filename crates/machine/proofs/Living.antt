@@ -49,7 +49,7 @@ alive-write : (m : Machine) → Alive m → (n r : ℕ) (s : Session) → Found 
     → deeds vs ≡ d ∷ deeds (m .rows r) → Alive (withRow m r vs)
 alive-write m a n r s f vs d e w = alive-put m r vs a (rw w (inr (s, rw e f), a r))
 
-nil-of : (vs : List Version) → isNil vs ≡ true → vs ≡ []
+pub nil-of : (vs : List Version) → isNil vs ≡ true → vs ≡ []
 nil-of [] e = refl
 nil-of (v ∷ vs) e = true-false true refl (sym e)
 

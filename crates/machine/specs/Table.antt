@@ -1,8 +1,8 @@
--- What a history alone says that a session reads: the plain table of demand 3. There is no page here, no version, no mark and no
--- rule of sight; whoever kept a record of the accepted calls can work it out on paper. Assumes nothing.
+-- What a history alone says that a session reads: the plain table of demand 3; and which rows it may write. There is no page here, no
+-- version, no mark and no rule of sight; whoever kept a record of the accepted calls can work it out on paper. Assumes nothing.
 use Prim.Native.Nat.{ℕ, suc}
-use mathlib.Core.Bool.{Bool, false, not, _&&_, _||_, cond}
-use mathlib.Core.Option.{Option, none}
+use mathlib.Core.Bool.{Bool, true, false, not, _&&_, _||_, cond}
+use mathlib.Core.Option.{Option, none, some}
 use mathlib.Core.List.{List, [], _∷_, _++_}
 use lib.Dec.{eqb, ltb}
 
@@ -156,3 +156,41 @@ hasWritten (moved n ∷ h) s q = hasWritten h s q
 hasWritten (wrote n r b ∷ h) s q = (eqb s n && eqb q r) || hasWritten h s q
 hasWritten (committed n ∷ h) s q = hasWritten h s q
 hasWritten (withdrew n ∷ h) s q = hasWritten h s q
+
+-- ---- the last write of a row
+
+-- a write as the history has it: who wrote, in which of its statements, and what the row held from then on
+pub record Last : Type 0 where
+  pub who : ℕ
+  pub statement : ℕ
+  pub body : Option Body
+
+-- the row's last write by a session that is not among these and was not withdrawn: whoever was is left out of what lies before. A number
+-- is handed out once since the format, so none comes back
+abbrev pub lastBut : List ℕ → History → ℕ → Option Last
+lastBut gone [] r = none
+lastBut gone (began n ∷ h) r = lastBut gone h r
+lastBut gone (moved n ∷ h) r = lastBut gone h r
+lastBut gone (wrote n q b ∷ h) r =
+    cond (eqb r q && not (member n gone)) (some (record { who = n; statement = statementOf h n; body = b })) (lastBut gone h r)
+lastBut gone (committed n ∷ h) r = lastBut gone h r
+lastBut gone (withdrew n ∷ h) r = lastBut (n ∷ gone) h r
+
+-- the row's last write that was not withdrawn, if there is one
+abbrev pub lastWrite : History → ℕ → Option Last
+lastWrite h r = lastBut [] h r
+
+-- ---- who may write a row
+
+abbrev pub gave : Option Body → Bool
+gave none = false
+gave (some b) = true
+
+-- S may write over this write: it gave the row a body, and is of a session that committed before S began, or S's own of an earlier statement
+abbrev pub mayFollow : History → ℕ → Option Last → Bool
+mayFollow h s none = false
+mayFollow h s (some w) = gave (w .body) && (committedBefore h (w .who) s || (eqb (w .who) s && ltb (w .statement) (statementOf h s)))
+
+-- S may update or delete the row, by the history alone
+abbrev pub mayWrite : History → ℕ → ℕ → Bool
+mayWrite h s r = mayFollow h s (lastWrite h r)
