@@ -1,2 +1,3 @@
 pub mod Freeings
 pub mod Tallies
+pub mod Clearings

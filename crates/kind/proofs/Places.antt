@@ -97,6 +97,18 @@ module _ {page size count : ℕ} (lie : Lie page size count) where
         (omega (arith, mul-le-mul-right {m = p} {n = r / count} page l)))
         (lt-or-le (r / count) p)
 
+    -- leaves what lies behind the last record of every page as it was
+    pub within-behind : (p o n : ℕ) → 48 + count * size ≤ o → o + n ≤ page → part (p * page + o) n y ≡ part (p * page + o) n s
+    within-behind p o n low high =
+        ap (part (p * page + o) n) (w .is)
+        ∙ ⊎-elim
+        (λ (l : p < r / count).
+        part-sets-below (p * page + o) n s (placeOf page size count r + w .from) (w .bytes) (omega (arith, multiple-more p (r / count) page l)))
+        (λ (l : r / count ≤ p).
+        part-sets-above (p * page + o) n s (placeOf page size count r + w .from) (w .bytes)
+        (omega (arith, w .inside, multiple-more (r % count) count size (mod-lt r (lie .some)), mul-le-mul-right {m = r / count} {n = p} page l)))
+        (lt-or-le p (r / count))
+
     -- leaves the other pages as they were
     pub within-page : (p : ℕ) → (p ≡ r / count → ⊥) → part (p * page) page y ≡ part (p * page) page s
     within-page p ne =

@@ -1,13 +1,13 @@
--- Parts of bytes are bytes, stores of bytes keep bytes, and a number in w bytes fits w bytes. Assumes nothing.
-use mathlib.Core.Path.{subst}
+-- Parts of bytes are bytes, stores of bytes keep bytes, and a number in w bytes fits w bytes and may be stored over itself. Assumes nothing.
+use mathlib.Core.Path.{_≡_, sym, ap, subst, _∙_}
 use mathlib.Core.List.{List, [], _∷_, _++_}
 use Prim.Native.Nat.{ℕ, zero, suc, _+_, _/_, _^_, _≤_, _<_}
 use native.Mathlib.Omega.{arith}
 use lib.ListN.{length, take, drop, getD, set, replicate}
 use lib.Seq.{sets}
 use Rattle.little.specs.Little.{little, digits, part, bytesOf, Bytes}
-use Rattle.little.proofs.Digits.{little-below}
-use Rattle.little.proofs.Parts.{length-part}
+use Rattle.little.proofs.Digits.{little-below, digits-little}
+use Rattle.little.proofs.Parts.{length-part, sets-part}
 
 bytes-take : (n : ℕ) (l : List ℕ) → Bytes l → Bytes (take n l)
 bytes-take zero l h = tt
@@ -53,6 +53,14 @@ bytes-bytesOf (f ∷ fs) = bytes-append (digits (f .0) (f .1)) (bytesOf fs) (byt
 pub little-part-below : (at w : ℕ) (s : List ℕ) → Bytes s → at + w ≤ length s → little (part at w s) < 256 ^ w
 little-part-below at w s h k =
     subst (λ (n : ℕ). little (part at w s) < 256 ^ n) (length-part at w s k) (little-below (part at w s) (bytes-part at w s h))
+
+-- a number stored where it is read
+pub sets-little : (at w v : ℕ) (s : List ℕ) → Bytes s → at + w ≤ length s → v ≡ little (part at w s) → sets s at (digits w v) ≡ s
+sets-little at w v s b h is =
+    ap (λ (n : ℕ). sets s at (digits w n)) is
+    ∙ ap (λ (n : ℕ). sets s at (digits n (little (part at w s)))) (sym (length-part at w s h))
+    ∙ ap (sets s at) (digits-little (part at w s) (bytes-part at w s b))
+    ∙ sets-part at w s h
 
 pub bytes-at : (l : List ℕ) → Bytes l → (i : ℕ) → i < length l → getD l i 0 < 256
 bytes-at [] h i k = absurd (omega arith)

@@ -5,7 +5,7 @@ use Prim.Native.Nat.{ℕ, zero, suc, _+_, _-_, _*_, _/_, _%_, _^_, _≤_, _<_}
 use native.Mathlib.Nat.{add-zero, zero-add, add-suc, suc-add, add-sub-of-le}
 use native.Mathlib.Numerals.{add-one}
 use native.Mathlib.Omega.{arith}
-use lib.ListN.{length, take, drop, getD, set, replicate, length-drop, length-set, length-replicate, replicate-append-replicate}
+use lib.ListN.{length, take, drop, getD, set, replicate, length-drop, length-set, length-replicate, replicate-append-replicate, take-append-drop}
 use lib.Seq.{sets, sets-eq, take-add, drop-drop, drop-cons, take-at, drop-at, length-take-le, take-take, drop-set-add, drop-set-lt, take-set-le, take-set-lt, set-set, set-comm, take-all, take-suc, take-append-le, drop-append-le, drop-append-add, getD-set-other}
 use Rattle.little.specs.Little.{little, digits, part}
 use Rattle.little.proofs.Digits.{length-digits, little-digits, little-append, digits-add, digits-low}
@@ -179,6 +179,16 @@ sets-again s at (a ∷ x) (b ∷ y) e =
     (set-sets-below (set s at a) at (suc at) b x (omega arith)
     ∙ ap (λ (l : List ℕ). sets l (suc at) x) (set-set s at a b))
     ∙ sets-again (set s at b) (suc at) x y (omega arith)
+
+-- a part stored where it lies
+pub sets-part : (at w : ℕ) (s : List ℕ) → at + w ≤ length s → sets s at (part at w s) ≡ s
+unfolding part
+sets-part at w s h =
+    let long : length (part at w s) ≡ w = length-part at w s h in
+    sets-eq (part at w s) s at (omega arith)
+    ∙ ap (λ (n : ℕ). take at s ++ part at w s ++ drop (at + n) s) long
+    ∙ ap (λ (l : List ℕ). l ++ drop (at + w) s) (sym (take-add at w s))
+    ∙ take-append-drop (at + w) s
 
 -- a list stored over as many elements, and over the front of a longer one
 pub sets-front : (l vs : List ℕ) → length vs ≤ length l → sets l 0 vs ≡ vs ++ drop (length vs) l

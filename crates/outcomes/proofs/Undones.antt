@@ -39,7 +39,7 @@ use Rattle.strands.proofs.Shapes.{shaped-refl, shaped-trans, shaped-withoutSlot
 use Rattle.strands.proofs.Runs.{step-place, step-inside, strand-freed, keeps-refl, keeps-freed, chain-strand}
 use Rattle.putback.specs.PutBack.{own, ownMade, unexpired, freedAt, copyBody, takenBack, undoneRow}
 
-unexpired-fit : (x : Slot) → SlotFit x → SlotFit (unexpired x)
+pub unexpired-fit : (x : Slot) → SlotFit x → SlotFit (unexpired x)
 unexpired-fit x f = fit-slot (unexpired x) (f .0) (omega arith) (f .1 .1 .0) (f .1 .1 .1 .0) (omega arith)
 
 shaped-freedAt : (n : ℕ) (p : Place) (u : List ℕ) → Shaped u (freedAt n p u)
@@ -336,7 +336,7 @@ module _ (n k r : ℕ) (d u : List ℕ) (h : RowIn r d u) where
   -- the creator isn't S. If no copy is left, empty the slot"
   module _ (number : 0 < n) (made : ownMade n k (slotAt r d) ≡ true) where
     -- no session is number 0, so the row is occupied
-    made-some : slotAt r d .create ≡ 0 → ⊥
+    pub made-some : slotAt r d .create ≡ 0 → ⊥
     unfolding own
     made-some z = by (eqb (slotAt r d .create) n) refl made
       where
@@ -344,7 +344,7 @@ module _ (n k r : ℕ) (d u : List ℕ) (h : RowIn r d u) where
         by true q e = let same : slotAt r d .create ≡ n = eqb-true (slotAt r d .create) n q in omega arith
         by false q e = false≢true e
 
-    undoneRow-made : undoneRow n k r (both d u) ≡ takenBack n k r (behind .versions) (both d u)
+    pub undoneRow-made : undoneRow n k r (both d u) ≡ takenBack n k r (behind .versions) (both d u)
     unfolding undoneRow
     undoneRow-made =
         rw made

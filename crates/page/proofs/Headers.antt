@@ -102,12 +102,15 @@ fieldIn-putField f p v s room fits h = fieldIn-pageAt f p (putField f p v s) roo
 
 -- ---- the header of a page, its first 48 bytes
 
--- a field of it is what these bytes say
-pub fieldIn-header : (f : ℕ × ℕ) (x y : List ℕ) → f .0 + f .1 ≤ 48 → part 0 48 y ≡ part 0 48 x → fieldIn f y ≡ fieldIn f x
-fieldIn-header f x y h same = sym (front y) ∙ ap (fieldIn f) same ∙ front x
+-- a part of it, and so a field, is what these bytes say
+pub part-header : (o n : ℕ) (x y : List ℕ) → o + n ≤ 48 → part 0 48 y ≡ part 0 48 x → part o n y ≡ part o n x
+part-header o n x y h same = sym (front y) ∙ ap (part o n) same ∙ front x
   where
-    front : (page : List ℕ) → fieldIn f (part 0 48 page) ≡ fieldIn f page
-    front page = ap little (part-part (f .0) (f .1) 0 48 page h ∙ ap (λ (at : ℕ). part at (f .1) page) (zero-add (f .0)))
+    front : (page : List ℕ) → part o n (part 0 48 page) ≡ part o n page
+    front page = part-part o n 0 48 page h ∙ ap (λ (at : ℕ). part at n page) (zero-add o)
+
+pub fieldIn-header : (f : ℕ × ℕ) (x y : List ℕ) → f .0 + f .1 ≤ 48 → part 0 48 y ≡ part 0 48 x → fieldIn f y ≡ fieldIn f x
+fieldIn-header f x y h same = ap little (part-header (f .0) (f .1) x y h same)
 
 -- those of page p
 pub header-at : (p : ℕ) (s : List ℕ) → part 0 48 (pageAt p s) ≡ part (p * 8192 + 0) 48 s

@@ -1,3 +1,4 @@
 pub mod Headers
 pub mod Counts
 pub mod Anew
+pub mod Touches

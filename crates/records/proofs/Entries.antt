@@ -177,7 +177,7 @@ module _ {e : ℕ} {u y : List ℕ} (w : WithinEntry e u y) (t : ℕ) (ne : t �
 -- ---- reading what was put
 
 module _ (e : ℕ) (m : Entry) (body u : List ℕ) (here : e < entries u) (long : length body ≡ 32) where
-  entryBytes-putEntry : entryBytes e (putEntry e m body u) ≡ bytesOf (entryFields m) ++ body
+  pub entryBytes-putEntry : entryBytes e (putEntry e m body u) ≡ bytesOf (entryFields m) ++ body
   unfolding putEntry
   entryBytes-putEntry = recordAt-sets entries-lie e u (bytesOf (entryFields m) ++ body) (length-entry m body long) (entry-inside e u here)
 

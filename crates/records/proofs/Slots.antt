@@ -177,7 +177,7 @@ module _ {r : ℕ} {s y : List ℕ} (w : WithinSlot r s y) (t : ℕ) (ne : t ≡
 -- ---- reading what was put
 
 module _ (r : ℕ) (m : Slot) (body s : List ℕ) (row : r < rows s) (long : length body ≡ 32) where
-  slotBytes-putSlot : slotBytes r (putSlot r m body s) ≡ bytesOf (slotFields m) ++ body
+  pub slotBytes-putSlot : slotBytes r (putSlot r m body s) ≡ bytesOf (slotFields m) ++ body
   unfolding putSlot
   slotBytes-putSlot =
       recordAt-sets slots-lie r s (bytesOf (slotFields m) ++ body) (length-slot m body long) (slot-inside r s row)

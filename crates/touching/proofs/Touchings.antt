@@ -1,26 +1,27 @@
 -- The laws of writes that touch: what was put is read, other records and other pages are as they were, and so is the length. Callers
 -- cite these and unfold nothing. Assumes nothing.
 use mathlib.Core.Path.{_≡_, refl, ap, _∙_}
-use mathlib.Core.List.{List}
+use mathlib.Core.List.{List, _++_}
 use Prim.Native.Nat.{ℕ, _/_, _<_}
 use native.Mathlib.Omega.{arith}
 use lib.ListN.{length}
-use Rattle.little.specs.Little.{Bytes}
+use Rattle.little.specs.Little.{bytesOf, Bytes}
 use Rattle.kind.specs.declared.Kind.{Kind}
 use Rattle.kind.specs.Kind.{rows, entries, dataKind, undoKind}
 use Rattle.kind.specs.Place.{recordAt}
 use Rattle.kind.proofs.Places.{Lie, Within, within-other, within-page, length-within}
 use Rattle.records.specs.declared.slot.Slot.{Slot}
 use Rattle.records.specs.declared.entry.Entry.{Entry}
-use Rattle.records.specs.Slot.{slotAt, bodyAt, putSlot, putMeta}
-use Rattle.records.specs.Entry.{entryAt, copyBodyAt, putEntry}
-use Rattle.records.proofs.Slots.{SlotFit, slots-lie, slotAt-same, bodyAt-same, putSlot-within, putMeta-within, slotAt-putSlot-same, bodyAt-putSlot-same, slotAt-putMeta-same, bodyAt-putMeta-same}
-use Rattle.records.proofs.Entries.{EntryFit, entries-lie, entryAt-same, copyBodyAt-same, putEntry-within, entryAt-putEntry-same, copyBodyAt-putEntry-same}
+use Rattle.records.specs.Slot.{slotFields, slotBytes, slotAt, bodyAt, putSlot, putMeta}
+use Rattle.records.specs.Entry.{entryFields, entryBytes, entryAt, copyBodyAt, putEntry}
+use Rattle.records.proofs.Slots.{SlotFit, slots-lie, slotAt-same, bodyAt-same, putSlot-within, putMeta-within, slotBytes-putSlot, slotAt-putSlot-same, bodyAt-putSlot-same, slotAt-putMeta-same, bodyAt-putMeta-same}
+use Rattle.records.proofs.Entries.{EntryFit, entries-lie, entryAt-same, copyBodyAt-same, putEntry-within, entryBytes-putEntry, entryAt-putEntry-same, copyBodyAt-putEntry-same}
+use Rattle.records.proofs.Stores.{slotBytes-putMeta}
 use Rattle.records.proofs.Fits.{length-putSlot, length-putEntry, bytes-putMeta, bytes-putSlot}
-use Rattle.page.specs.Header.{pageAt, txnId, itemCount}
-use Rattle.page.specs.Count.{itemsIn, counted, touched}
-use Rattle.page.proofs.Headers.{pageAt-putField-other}
+use Rattle.page.specs.Header.{pageAt}
+use Rattle.page.specs.Count.{touched}
 use Rattle.page.proofs.Counts.{length-touched, bytes-touched, recordAt-touched, slotAt-touched, bodyAt-touched, entryAt-touched, copyBodyAt-touched}
+use Rattle.page.proofs.Touches.{pageAt-touched-other}
 use Rattle.touching.specs.Touching.{withSlot, withMeta, withEntry}
 
 -- ---- what the functions compute: y is the area written, z the area touched
@@ -55,13 +56,6 @@ pub record Written (size count r : ℕ) (s z : List ℕ) : Type 0 where
   pub within : Within 8192 size count r s stored
   pub is : z ≡ touched kind (r / count) txn stored
 
--- touching writes in the header of its page, and in no other page
-pageAt-touched-other : (k : Kind) (p q txn : ℕ) (s : List ℕ) → (q ≡ p → ⊥) → pageAt q (touched k p txn s) ≡ pageAt q s
-unfolding touched counted
-pageAt-touched-other k p q txn s ne =
-    pageAt-putField-other txnId p q txn (counted k p s) (omega arith) ne
-    ∙ pageAt-putField-other itemCount p q (itemsIn k (pageAt p s)) s (omega arith) ne
-
 module _ {size count r : ℕ} {s z : List ℕ} (lie : Lie 8192 size count) (w : Written size count r s z) where
   pub length-written : length z ≡ length s
   length-written =
@@ -79,7 +73,7 @@ module _ {size count r : ℕ} {s z : List ℕ} (lie : Lie 8192 size count) (w : 
   unfolding pageAt
   pageAt-written-other p ne =
       ap (pageAt p) (w .is)
-      ∙ pageAt-touched-other (w .kind) (r / count) p (w .txn) (w .stored) ne
+      ∙ pageAt-touched-other (w .kind) (r / count) (w .stored) (w .txn) p ne
       ∙ within-page lie (w .within) p ne
 
 abbrev pub WrittenSlot : ℕ → List ℕ → List ℕ → Type 0
@@ -171,3 +165,21 @@ module _ (txn r : ℕ) (m : Slot) (d : List ℕ) where
 pub length-withEntry : (txn e : ℕ) (m : Entry) (body u : List ℕ) → length (withEntry txn e m body u) ≡ length u
 unfolding withEntry
 length-withEntry txn e m body u = length-touched undoKind (e / 101) txn (putEntry e m body u) ∙ length-putEntry e m body u
+
+-- ---- what was put, byte by byte
+
+module _ (txn r : ℕ) (m : Slot) (d : List ℕ) (row : r < rows d) where
+  pub slotBytes-withSlot : (body : List ℕ) → length body ≡ 32 → slotBytes r (withSlot txn r m body d) ≡ bytesOf (slotFields m) ++ body
+  unfolding withSlot
+  slotBytes-withSlot body long =
+      recordAt-touched slots-lie dataKind (r / 127) r (putSlot r m body d) txn ∙ slotBytes-putSlot r m body d row long
+
+  pub slotBytes-withMeta : slotBytes r (withMeta txn r m d) ≡ bytesOf (slotFields m) ++ bodyAt r d
+  unfolding withMeta
+  slotBytes-withMeta = recordAt-touched slots-lie dataKind (r / 127) r (putMeta r m d) txn ∙ slotBytes-putMeta r m d row
+
+pub entryBytes-withEntry : (txn e : ℕ) (m : Entry) (body u : List ℕ) → e < entries u → length body ≡ 32
+    → entryBytes e (withEntry txn e m body u) ≡ bytesOf (entryFields m) ++ body
+unfolding withEntry
+entryBytes-withEntry txn e m body u here long =
+    recordAt-touched entries-lie undoKind (e / 101) e (putEntry e m body u) txn ∙ entryBytes-putEntry e m body u here long

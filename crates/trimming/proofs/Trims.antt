@@ -34,7 +34,7 @@ use Rattle.trimming.specs.Trimming.{deadIn, sweptAt, sweptAll, unlinked,
 
 -- ---- a version that stays
 
-unlinked-fit : (x : Slot) → SlotFit x → SlotFit (unlinked x)
+pub unlinked-fit : (x : Slot) → SlotFit x → SlotFit (unlinked x)
 unlinked-fit x f = fit-slot (unlinked x) (f .0) (f .1 .0) (omega arith) (f .1 .1 .1 .0) (f .1 .1 .1 .1 .0)
 
 -- a slot that ends its chain has no pointer to lose
@@ -43,7 +43,7 @@ unlinked-same u r x h =
     ap (λ (p : ℕ). record { create = x .create; expire = x .expire; «undo_ptr» = p; cmd = x .cmd; «expire_cmd» = x .«expire_cmd» })
     (sym (link-none u r (x .«undo_ptr») h))
 
-step-fit : {u : List ℕ} {r : ℕ} {ps : List ℕ} {ptr : ℕ} {x : Version} → Step u r ps ptr x → Bytes u → SlotFit (unlinked (x .slot))
+pub step-fit : {u : List ℕ} {r : ℕ} {ps : List ℕ} {ptr : ℕ} {x : Version} → Step u r ps ptr x → Bytes u → SlotFit (unlinked (x .slot))
 step-fit {u} {r} {ps} {ptr} {x} s b =
     unlinked-fit (x .slot) (subst SlotFit (sym (step-slot s)) (copy-fit (entryIn x) u b (step-inside s)))
 
@@ -68,7 +68,7 @@ shaped-sweptAt (Undo e) u = shaped-sweptEntry e u
 shaped-sweptAt (Data r) u = shaped-refl u
 shaped-sweptAt Nowhere u = shaped-refl u
 
-shaped-sweptAll : (xs : List Version) (u : List ℕ) → Shaped u (sweptAll xs u)
+pub shaped-sweptAll : (xs : List Version) (u : List ℕ) → Shaped u (sweptAll xs u)
 unfolding sweptAll
 shaped-sweptAll [] u = shaped-refl u
 shaped-sweptAll (x ∷ xs) u =
@@ -105,7 +105,7 @@ module _ (m : ℕ) (st : List ℕ) (r : ℕ) (d u : List ℕ) (b : Bytes u) wher
   goesOn y ys = sweptBehind m st y ys (both d u)
 
   -- the data area is as it was
-  behind-data : (w : Bool) (xs : List Version) (x : Version) (ps : List ℕ) (ptr : ℕ) → Strand u r w ps ptr (x ∷ xs)
+  pub behind-data : (w : Bool) (xs : List Version) (x : Version) (ps : List ℕ) (ptr : ℕ) → Strand u r w ps ptr (x ∷ xs)
       → sweptBehind m st x xs (both d u) .«data» ≡ d
   unfolding sweptBehind
   behind-data w [] x ps ptr s = refl

@@ -12,7 +12,7 @@ use lib.Seq.{sets}
 use lib.Dec.{eqb}
 use borrow.Author.Tests.{eqb-true}
 use Rattle.ground.specs.Range.{countBelow}
-use Rattle.ground.proofs.Ranges.{and-true-left, and-true-right, count-le}
+use Rattle.ground.proofs.Ranges.{and-true-left, and-true-right}
 use Rattle.little.specs.Little.{little, digits, part, holds}
 use Rattle.little.proofs.Digits.{length-digits, digits-low}
 use Rattle.little.proofs.Parts.{part-part, part-sets-below, part-sets-above, little-sets}
@@ -23,8 +23,9 @@ use Rattle.kind.proofs.Places.{Lie, Within, within-header, within-page, length-
 use Rattle.status.specs.declared.Status.{Status}
 use Rattle.status.specs.Status.{putStatus}
 use Rattle.page.specs.Header.{header, pageAt, txnId, checksum, itemCount, fieldIn, putField}
-use Rattle.page.specs.Count.{inUse, itemsIn, counted}
+use Rattle.page.specs.Count.{itemsIn, counted}
 use Rattle.page.proofs.Counts.{itemsIn-header}
+use Rattle.page.proofs.Touches.{itemsIn-few}
 use Rattle.page.proofs.Headers.{length-pageAt, pageAt-putField-same, pageAt-putField-other, fieldIn-header, header-at, header-putStatus}
 use Rattle.whole.specs.Whole.{headerRight}
 
@@ -87,11 +88,6 @@ rightWith-front k id n page =
 rightWith-same : (k : Kind) (id n : ℕ) (x y : List ℕ) → part 0 48 y ≡ part 0 48 x → rightWith k id n y ≡ rightWith k id n x
 rightWith-same k id n x y e =
     sym (rightWith-front k id n y) ∙ ap (rightWith k id n) e ∙ rightWith-front k id n x
-
--- no more are counted than there are
-itemsIn-few : (k : Kind) (page : List ℕ) → itemsIn k page ≤ k .count
-unfolding itemsIn
-itemsIn-few k page = count-le (inUse (k .size) page) (k .count)
 
 module _ (k : Kind) (id : ℕ) (page : List ℕ) (long : length page ≡ 8192) where
   -- txn_id and checksum may say anything

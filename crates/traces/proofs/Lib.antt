@@ -1,0 +1,10 @@
+pub mod Pages
+pub mod Records
+pub mod Writes
+pub mod Confined
+pub mod Holds
+pub mod Rows
+pub mod Sweeps
+pub mod Withdraws
+pub mod Calls
+pub mod Statuses
