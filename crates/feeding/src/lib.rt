@@ -2,9 +2,15 @@
 // rule: which call a line is, what it does and what it answers is `script`'s.
 use script::Station;
 ghost use mathlib.Core.Path.{_≡_};
+ghost use mathlib.Core.Bool.{true};
 ghost use mathlib.Core.List.{_++_};
-ghost use Prim.Native.Nat.{_-_, _≤_};
+ghost use Prim.Native.Nat.{_+_, _-_, _^_, _≤_, _<_};
 ghost use lib.ListN.{length, take, drop};
+ghost use Rattle.kind.specs.Areas.{areas};
+ghost use Rattle.line.specs.Line.{longest as longestLine};
+ghost use Rattle.reply.specs.Reply.{longest as longestAnswer};
+ghost use Rattle.script.specs.Script.{carried};
+ghost use Rattle.feeding.specs.Feeding.{filledBy, Fills, stand, Answers, Turns};
 
 // What is carried from one reading to the next: the station, how much text that was not taken stands at the front of the buffer, and
 // whether to go on.
@@ -53,7 +59,8 @@ fn answer(
     out: &mut [u8],
     output: i32,
 ) -> Fed
-    ensures { λ r. ⌜ r .kept ≤ length (now (text .entry)) ⌝ }
+    requires { ⌜ longestAnswer ≤ length (now out) ⌝ }
+    ensures { λ r. ⌜ Answers last (length (now (out .entry))) (stand (carried station (areas (now («data» .entry)) (now (undo .entry)) (now (status .entry)))) (now (text .entry))) r (areas (now («data» .exit)) (now (undo .exit)) (now (status .exit))) ⌝ }
 {
     let mut s = station;
     let mut at = 0;
@@ -63,6 +70,7 @@ fn answer(
         let made = r.made;
         let taken = r.taken;
         let said = say(&out[..made], output);
+        at += taken;
         if !said | (taken == 0) {
             return Fed {
                 station: s,
@@ -70,7 +78,6 @@ fn answer(
                 more: said & !last,
             };
         }
-        at += taken;
     }
     Fed {
         station: s,
@@ -79,26 +86,33 @@ fn answer(
     }
 }
 
-// Reads once, behind what was kept, and answers how much text there is then, and whether that was all.
-fn fill(text: &mut [u8], kept: usize, input: i32) -> Filled
-    requires { ⌜ kept ≤ length (now text) ⌝ }
-    ensures { λ r. ⌜ r .end ≤ length (now (text .entry)) ⌝ }
+// What a reading gave that answered `got`, into the room behind what was kept.
+fn gave(kept: usize, got: isize, room: &[u8]) -> Filled
+    requires { ⌜ kept + length (now room) < 2 ^ 64 ⌝ }
+    ensures { λ r. ⌜ r ≡ filledBy kept got (length (now (room .entry))) ⌝ }
 {
-    let got = libc::read(input, &mut text[kept..]);
     if got < 0 {
-        os::fail(b"chirimok: the script");
         return Filled {
             good: false,
             end: kept,
             last: true,
         };
     }
-    let n = io::count(got, &text[kept..]);
+    let n = io::count(got, room);
     Filled {
         good: true,
         end: kept + n,
         last: n == 0,
     }
+}
+
+// Reads once, behind what was kept, and answers how much text there is then, and whether that was all.
+fn fill(text: &mut [u8], kept: usize, input: i32) -> Filled
+    requires { ⌜ kept < length (now text) ⌝ }
+    ensures { λ r. ⌜ Fills kept (now (text .entry)) (now (text .exit)) r ⌝ }
+{
+    let got = libc::read(input, &mut text[kept..]);
+    gave(kept, got, &text[kept..])
 }
 
 // Reads once, and answers what is there.
@@ -113,11 +127,13 @@ fn turn(
     input: i32,
     output: i32,
 ) -> Fed
-    requires { ⌜ kept ≤ length (now text) ⌝ }
-    ensures { λ r. ⌜ r .kept ≤ length (now (text .entry)) ⌝ }
+    requires { ⌜ (kept < length (now text)) × (longestLine < length (now text)) × (longestAnswer ≤ length (now out)) ⌝ }
+    ensures { λ r. ⌜ Turns (carried station (areas (now («data» .entry)) (now (undo .entry)) (now (status .entry)))) kept (now (text .entry)) (length (now (out .entry))) r (areas (now («data» .exit)) (now (undo .exit)) (now (status .exit))) (now (text .exit)) ⌝ }
+    ensures { λ r. ⌜ (r .more ≡ true → r .kept ≤ longestLine) ⌝ }
 {
     let filled = fill(text, kept, input);
     if !filled.good {
+        os::fail(b"chirimok: the script");
         return Fed {
             station,
             kept,

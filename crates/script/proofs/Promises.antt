@@ -314,6 +314,32 @@ end-of s n = by (eqb n 0) (s .long) refl refl
     by true true e f = (refl, refl)
     by false b e f = (refl, refl)
 
+-- where no more text comes and a run takes nothing of it, nothing is left to say
+rest-done : (k : Carried) (text : List ℕ) → rested true (ran [] 0 k) text .taken ≡ 0
+    → output (rested true (ran [] 0 k) text .on) (drop (rested true (ran [] 0 k) text .taken) text) ≡ []
+unfolding rested answers parts
+rest-done k [] none =
+    ap (λ (n : ℕ). output (rested true (ran [] 0 k) [] .on) (drop n [])) none
+    ∙ ap (λ (b : Bool). cond (not b) [] sixteen) (end-of (k .station) 0 .1)
+rest-done k (b ∷ text) none = absurd (omega (arith, none, end-of (k .station) (length (b ∷ text)) .0))
+
+pub run-done : (k : Carried) (text : List ℕ) (room : ℕ) → longestAnswer ≤ room → runRule k text true room .taken ≡ 0
+    → output (runRule k text true room .on) (drop (runRule k text true room .taken) text) ≡ []
+unfolding runRule
+run-done k text room h none = by (lacks 10 text) refl
+  where
+    w : Run
+    w = runRule k text true room
+
+    by : (t : Bool) → lacks 10 text ≡ t → output (w .on) (drop (w .taken) text) ≡ []
+    by true e =
+        subst⁻¹ (λ (r : Run). output (r .on) (drop (r .taken) text) ≡ []) is
+        (rest-done k text (ap (λ (r : Run). r .taken) (sym is) ∙ none))
+      where
+        is : w ≡ rested true (ran [] 0 k) text
+        is = ap (runLines room true (ran [] 0 k)) (parts-alone 10 text e) ∙ run-last room true (ran [] 0 k) text (full-no room (ran [] 0 k) (omega (arith, h)))
+    by false e = absurd (omega (arith, none, run-goes-on k text true room h e))
+
 -- no answer is longer than 88 bytes
 turn-fits : (k : Carried) (c : Call) → length (lineOf (turnIn k c)) ≤ longestAnswer
 unfolding turnIn

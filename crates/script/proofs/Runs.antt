@@ -12,9 +12,7 @@ use Rattle.little.proofs.Parts.{sets-append}
 use Rattle.kind.specs.Areas.{Areas}
 use Rattle.span.specs.Span.{before, parts}
 use Rattle.span.proofs.Spans.{before-length, before-take, parts-cut, parts-ended, parts-last}
-use Rattle.lines.specs.declared.Line.the-variants.{Ended, Unended}
-use Rattle.lines.specs.Lines.{lineAt, endFrom}
-use Rattle.lines.proofs.Ends.{ended-end, unended-end}
+use Rattle.lines.specs.Lines.{endFrom}
 use Rattle.line.specs.declared.Call.{Call}
 use Rattle.line.specs.Line.{callOf, ill}
 use Rattle.reply.specs.Reply.{longest}
@@ -57,41 +55,36 @@ run-last room last r l h = rw h refl
 
 module _ (text : List ℕ) (at end : ℕ) where
   -- the line that ends there, and the lines behind it
-  line-here : lineAt text at ≡ Ended end
+  line-here : end ≡ endFrom text at
+      → end < length text
       → (take (end - at) (drop at text) ≡ before 10 (drop at text))
       × (parts 10 (drop at text) ≡ before 10 (drop at text) ∷ parts 10 (drop (end + 1) text))
       × (end + 1 ≡ at + length (before 10 (drop at text)) + 1)
-  line-here is = (
+  line-here is within = (
     ap (λ (n : ℕ). take n (drop at text)) long ∙ sym (before-take 10 (drop at text)),
     parts-ended 10 (drop at text) short
         ∙ ap (λ (l : List ℕ). before 10 (drop at text) ∷ parts 10 l) (drop-drop (length (before 10 (drop at text)) + 1) at text ∙ ap (λ (n : ℕ). drop n text) place),
-    omega (arith, found .0),
+    omega (arith, is),
   )
     where
-      found : (end ≡ endFrom text at) × (end < length text)
-      found = ended-end text at end is
-
       long : end - at ≡ length (before 10 (drop at text))
-      long = omega (arith, found .0)
+      long = omega (arith, is)
 
       place : at + (length (before 10 (drop at text)) + 1) ≡ end + 1
-      place = omega (arith, found .0)
+      place = omega (arith, is)
 
       short : length (before 10 (drop at text)) < length (drop at text)
-      short = rw length-drop (omega (arith, found .0, found .1))
+      short = rw length-drop (omega (arith, is, within))
 
   -- what is left, where no line ends
-  pub line-left : at ≤ length text → lineAt text at ≡ Unended end
+  pub line-left : at ≤ length text → end ≡ endFrom text at → length text ≤ end
       → (parts 10 (drop at text) ≡ drop at text ∷ []) × (end - at ≡ length (drop at text)) × (end ≡ length text)
-  line-left h is = (
-    parts-last 10 (drop at text) (omega (arith, long, before-length 10 (drop at text), found .0, found .1)),
-    omega (arith, long, before-length 10 (drop at text), found .0, found .1),
-    omega (arith, long, before-length 10 (drop at text), found .0, found .1),
+  line-left h is past = (
+    parts-last 10 (drop at text) (omega (arith, long, before-length 10 (drop at text), is, past)),
+    omega (arith, long, before-length 10 (drop at text), is, past),
+    omega (arith, long, before-length 10 (drop at text), is, past),
   )
     where
-      found : (end ≡ endFrom text at) × (length text ≤ end)
-      found = unended-end text at end is
-
       long : length (drop at text) ≡ length text - at
       long = length-drop at text
 
@@ -111,12 +104,13 @@ module _ (text : List ℕ) (last : Bool) (k₀ : Carried) (out₀ : List ℕ) (s
   -- one line more
   pub sofar-next : (c : Call) (r : Stepped) (left : Areas) (behind : List ℕ)
       → made + longest ≤ length out₀
-      → lineAt text at ≡ Ended end
+      → end ≡ endFrom text at
+      → end < length text
       → c ≡ cond (s .long) ill (callOf (take (end - at) (drop at text)))
       → Steps (carried s a) c made out r left behind
       → Sofar text last k₀ out₀ (carried (r .station) left) (end + 1) (r .end) behind
   unfolding lined
-  sofar-next c r left behind room is call steps = record {
+  sofar-next c r left behind room is within call steps = record {
     said = so .said ++ lineOf (turnIn (carried s a) c);
     long = steps .ends ∙ ap (λ (n : ℕ). n + length (lineOf (turnIn (carried s a) c))) (so .long) ∙ sym (length-append (so .said) (lineOf (turnIn (carried s a) c)));
     wrote =
@@ -127,7 +121,7 @@ module _ (text : List ℕ) (last : Bool) (k₀ : Carried) (out₀ : List ℕ) (s
     goes-on =
         ap (λ (q : Run). runLines (length out₀) last q (parts 10 (drop (end + 1) text))) (sym same)
         ∙ sym (run-next (length out₀) last (ran (so .said) at (carried s a)) l 10 (drop (end + 1) text) (full-no (length out₀) (ran (so .said) at (carried s a)) (omega (arith, so .long, room))))
-        ∙ ap (runLines (length out₀) last (ran (so .said) at (carried s a))) (sym (line-here text at end is .1))
+        ∙ ap (runLines (length out₀) last (ran (so .said) at (carried s a))) (sym (line-here text at end is within .1))
         ∙ so .goes-on;
   }
     where
@@ -138,13 +132,13 @@ module _ (text : List ℕ) (last : Bool) (k₀ : Carried) (out₀ : List ℕ) (s
       zero-left n = omega arith
 
       named : c ≡ callIn (carried s a) l
-      named = call ∙ ap (λ (x : List ℕ). cond (s .long) ill (callOf x)) (line-here text at end is .0)
+      named = call ∙ ap (λ (x : List ℕ). cond (s .long) ill (callOf x)) (line-here text at end is within .0)
 
       same : lined (ran (so .said) at (carried s a)) l
           ≡ ran (so .said ++ lineOf (turnIn (carried s a) c)) (end + 1) (carried (r .station) left)
       same =
           ap (λ (x : Call). ran (so .said ++ lineOf (turnIn (carried s a) x)) (at + length l + 1) (stepped (carried s a) x)) (sym named)
-          ∙ ap (λ (n : ℕ). ran (so .said ++ lineOf (turnIn (carried s a) c)) n (stepped (carried s a) c)) (sym (line-here text at end is .2))
+          ∙ ap (λ (n : ℕ). ran (so .said ++ lineOf (turnIn (carried s a) c)) n (stepped (carried s a) c)) (sym (line-here text at end is within .2))
           ∙ ap (ran (so .said ++ lineOf (turnIn (carried s a) c)) (end + 1)) (sym (steps .carries))
 
   -- no room for one more
@@ -167,11 +161,12 @@ module _ (text : List ℕ) (last : Bool) (k₀ : Carried) (out₀ : List ℕ) (s
   pub sofar-rest : (r : Ran) (behind : List ℕ)
       → made + longest ≤ length out₀
       → at ≤ length text
-      → lineAt text at ≡ Unended end
+      → end ≡ endFrom text at
+      → length text ≤ end
       → Rests s at (end - at) last made out r behind
       → Runs (runRule k₀ text last (length out₀)) out₀ r a behind
   unfolding rested
-  sofar-rest r behind room h is rests = record {
+  sofar-rest r behind room h is past rests = record {
     takes = rests .takes ∙ ap (λ (n : ℕ). at + restOf last s n .1) n-is ∙ ap (λ (q : Run). q .taken) run;
     makes =
         rests .makes
@@ -194,10 +189,10 @@ module _ (text : List ℕ) (last : Bool) (k₀ : Carried) (out₀ : List ℕ) (s
       zero-left n = omega arith
 
       n-is : end - at ≡ length (drop at text)
-      n-is = line-left text at end h is .1
+      n-is = line-left text at end h is past .1
 
       run : rested last (ran (so .said) at (carried s a)) (drop at text) ≡ runRule k₀ text last (length out₀)
       run =
           sym (run-last (length out₀) last (ran (so .said) at (carried s a)) (drop at text) (full-no (length out₀) (ran (so .said) at (carried s a)) (omega (arith, so .long, room))))
-          ∙ ap (runLines (length out₀) last (ran (so .said) at (carried s a))) (sym (line-left text at end h is .0))
+          ∙ ap (runLines (length out₀) last (ran (so .said) at (carried s a))) (sym (line-left text at end h is past .0))
           ∙ so .goes-on

@@ -1,6 +1,6 @@
 -- A script run on lent areas ("01, The script and one whole run"): the whole output of a text, and what one piece of it does. Assumes
 -- nothing.
-use Prim.Native.Nat.{ℕ, _+_, _*_, _≤_}
+use Prim.Native.Nat.{ℕ, _+_, _-_, _*_, _≤_}
 use mathlib.Core.Path.{_≡_}
 use mathlib.Core.Bool.{Bool, true, false, not, _&&_, cond}
 use mathlib.Core.List.{List, [], _∷_, _++_}
@@ -15,11 +15,13 @@ use Rattle.line.specs.declared.Verb.{Verb}
 use Rattle.line.specs.declared.Verb.the-variants.{Format, Open, Seal, Begin, Next, Insert, Update, Delete, Read, Commit, Withdraw, Sweep, IllFormed}
 use Rattle.line.specs.declared.Call.{Call}
 use Rattle.line.specs.Line.{callOf, ill, longest as longestLine}
+use Rattle.lines.specs.declared.Line.{Line}
 use Rattle.reply.specs.Reply.{answerLine, longest as longestAnswer}
 use Rattle.playing.specs.Playing.{Turn, playRule, lineOf}
 use Rattle.script.specs.declared.Station.{Station}
 use Rattle.script.specs.declared.Stepped.{Stepped}
 use Rattle.script.specs.declared.Ran.{Ran}
+use Rattle.script.specs.declared.Going.{Going}
 
 -- ---- one call
 
@@ -175,6 +177,29 @@ pub record Runs (w : Run) (buffer : List ℕ) (r : Ran) (left : Areas) (behind :
   pub carries : r .station ≡ w .on .station
   pub leaves : left ≡ w .on .lent
   pub writes : behind ≡ sets buffer 0 (w .said)
+
+-- ---- a run, line by line
+
+-- whether a buffer of so many bytes has room for an answer behind those written
+abbrev pub roomFor : ℕ → ℕ → Bool
+roomFor room made = leb longestAnswer (room - made)
+
+-- a run at its start
+unfoldable pub begun : Station → ℕ → Going
+begun s room = record { ran = record { station = s; taken = 0; made = 0 }; more = roomFor room 0 }
+
+-- what one line leaves: the call of an ended one, and the run goes on behind it while there is room; where it is unended, what is left of the
+-- text, and the run is done
+pub record Goes (k : Carried) (text : List ℕ) (l : Line) (last : Bool) (made : ℕ) (buffer : List ℕ) (r : Going) (left : Areas) (behind : List ℕ) : Type 0 where
+  pub inside : (r .ran .taken ≤ length text) × (r .ran .made ≤ length buffer)
+  pub ended : l .ended ≡ true
+      → Steps k (callIn k (take (l .end - l .start) (drop (l .start) text))) made buffer (record { station = r .ran .station; end = r .ran .made }) left behind
+      × (r .ran .taken ≡ l .behind)
+      × (r .more ≡ roomFor (length buffer) (r .ran .made))
+  pub unended : l .ended ≡ false
+      → Rests (k .station) (l .start) (l .end - l .start) last made buffer (r .ran) behind
+      × (left ≡ k .lent)
+      × (r .more ≡ false)
 
 -- "Before an accepted format": nothing is lent, and the desk is none
 unfoldable pub freshStation : Station

@@ -12,7 +12,8 @@ ghost use lib.ListN.{length, take, drop};
 ghost use Rattle.kind.specs.Areas.{areas};
 ghost use Rattle.line.specs.Line.{callOf, ill};
 ghost use Rattle.reply.specs.Reply.{longest};
-ghost use Rattle.script.specs.Script.{named as named·spec, lent as lent·spec, isFormat, carried, Steps, freshStation, inLine, Rests, Runs, runRule};
+ghost use Rattle.lines.specs.Lines.{lineAt};
+ghost use Rattle.script.specs.Script.{named as named·spec, lent as lent·spec, isFormat, carried, Steps, freshStation, inLine, Rests, Runs, runRule, roomFor, begun, Goes};
 
 // What a script carries along beside its areas: the desk, how many bytes of the data and of the undo area the last accepted format
 // named, and whether the line it is in has been found too long.
@@ -28,6 +29,12 @@ pub struct Ran {
     pub station: Station,
     pub taken: usize,
     pub made: usize,
+}
+
+// How far a run has come, and whether it goes on.
+struct Going {
+    ran: Ran,
+    more: bool,
 }
 
 // What a line leaves beside the areas: what is carried along, and where its answer ends.
@@ -186,6 +193,64 @@ fn rest(station: Station, at: usize, end: usize, last: bool, out: &mut [u8], mad
     }
 }
 
+// Whether a buffer of so many bytes has room for an answer behind those written.
+fn room_for(room: usize, made: usize) -> bool
+    requires { ⌜ made ≤ room ⌝ }
+    ensures { λ r. ⌜ r ≡ roomFor room made ⌝ }
+{
+    room - made >= reply::LONGEST
+}
+
+// A run at its start: nothing is done with, nothing written.
+fn begins(station: Station, room: usize) -> Going
+    ensures { λ r. ⌜ r ≡ begun station room ⌝ }
+{
+    Going {
+        ran: Ran {
+            station,
+            taken: 0,
+            made: 0,
+        },
+        more: room_for(room, 0),
+    }
+}
+
+// One line more, and whether the run goes on behind it: an ended line is played, where it is unended it is what is left of the text.
+fn goes_on(
+    data: &mut [u8],
+    undo: &mut [u8],
+    status: &mut [u8],
+    so: Going,
+    text: &[u8],
+    line: Line,
+    last: bool,
+    out: &mut [u8],
+) -> Going
+    requires { ⌜ (line ≡ lineAt (now text) (so .ran .taken)) × (so .ran .taken ≤ length (now text)) × (so .ran .made + longest ≤ length (now out)) ⌝ }
+    ensures { λ r. ⌜ Goes (carried (so .ran .station) (areas (now («data» .entry)) (now (undo .entry)) (now (status .entry)))) (now (text .entry)) line last (so .ran .made) (now (out .entry)) r (areas (now («data» .exit)) (now (undo .exit)) (now (status .exit))) (now (out .exit)) ⌝ }
+{
+    let ran = so.ran;
+    let station = ran.station;
+    let made = ran.made;
+    if line.ended {
+        let call = call_in(text, line.start, line.end, station.long);
+        let t = step(data, undo, status, station, call, out, made);
+        let left = t.station;
+        return Going {
+            ran: Ran {
+                station: left,
+                taken: line.behind,
+                made: t.end,
+            },
+            more: room_for(out.len(), t.end),
+        };
+    }
+    Going {
+        ran: rest(station, line.start, line.end, last, out, made),
+        more: false,
+    }
+}
+
 // Runs the lines of a text, one after the other, while the buffer has room for an answer. `last`: no more text comes behind this one.
 pub fn run(
     data: &mut [u8],
@@ -199,27 +264,12 @@ pub fn run(
     ensures inside { λ r. ⌜ (r .taken ≤ length (now (text .entry))) × (r .made ≤ length (now (out .entry))) ⌝ }
     ensures runs { λ r. ⌜ Runs (runRule (carried station (areas (now («data» .entry)) (now (undo .entry)) (now (status .entry)))) (now (text .entry)) last (length (now (out .entry)))) (now (out .entry)) r (areas (now («data» .exit)) (now (undo .exit)) (now (status .exit))) (now (out .exit)) ⌝ }
 {
-    let mut s = station;
-    let mut at = 0;
-    let mut made = 0;
-    while out.len() - made >= reply::LONGEST {
-        let l = lines::read_line(text, at);
-        match l {
-            Line::Unended(end) => {
-                return rest(s, at, end, last, out, made);
-            }
-            Line::Ended(end) => {
-                let call = call_in(text, at, end, s.long);
-                let t = step(data, undo, status, s, call, out, made);
-                s = t.station;
-                made = t.end;
-                at = end + 1;
-            }
-        }
+    let mut reader = lines::new(text);
+    let mut so = begins(station, out.len());
+    while so.more {
+        let read = lines::next(reader);
+        reader = read.reader;
+        so = goes_on(data, undo, status, so, reader.text, read.line, last, out);
     }
-    Ran {
-        station: s,
-        taken: at,
-        made,
-    }
+    so.ran
 }

@@ -1,14 +1,17 @@
--- `feeding::feed` meets its contract: the buffers keep their lengths. Assumes nothing.
+-- `feeding::feed` meets its contract: the buffers keep their lengths, and there is room behind what is kept. Assumes nothing.
 use Prim.Native.Nat.{_≤_}
-use mathlib.Core.Path.{_≡_}
+use mathlib.Core.Path.{_≡_, refl}
+use mathlib.Core.Bool.{Bool, true, false, not, true≢false}
 use lib.ListN.{length}
 use borrow.Author.Needs.{needs}
+use Rattle.line.specs.Line.{longest}
+use Rattle.reply.specs.Reply.{longest as longestAnswer}
 use Rattle.feeding.proofs.feed.Statement.{statement}
 use Rattle.feeding.proofs.feed.Tie as tie
 
 abbrev Inv-loop : tie.InvT-loop
 Inv-loop input output data₀ undo₀ status₀ text₀ out₀ s₀ kept₀ left₀ «data» undo status text out s kept left =
-    (kept ≤ length text)
+    (kept ≤ longest)
     × (length «data» ≡ 24576)
     × (length undo ≡ 24576)
     × (length status ≡ 8192)
@@ -46,6 +49,7 @@ slice-aggregate-turn-5 : tie.Need-slice-aggregate-turn-5 Inv-loop μ-loop
 slice-aggregate-turn-5 c = search needs
 
 turn-requires : tie.Need-turn-requires Inv-loop μ-loop
+unfolding longest longestAnswer
 turn-requires c κs = search needs
 
 returns : tie.Need-returns Inv-loop μ-loop
@@ -57,8 +61,12 @@ sub-left c = search needs
 loop-less : tie.Need-loop-less Inv-loop μ-loop
 loop-less c = search needs
 
+more : (b : Bool) → not b ≡ false → b ≡ true
+more true e = refl
+more false e = absurd (true≢false e)
+
 loop-again : tie.Need-loop-again Inv-loop μ-loop
-loop-again c = search needs
+loop-again c = (c .before .before .before .before .before .before .before .before .turn .ensures .1 (more _ (c .before .if1 .left)), search needs, search needs, search needs, search needs, search needs)
 
 returns-2 : tie.Need-returns-2 Inv-loop μ-loop
 returns-2 c = search needs

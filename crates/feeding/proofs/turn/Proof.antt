@@ -1,19 +1,33 @@
--- `feeding::turn` meets its contract: what is kept fits. Assumes nothing.
+-- `feeding::turn` meets its contract: by the reading and its answering, joined. Assumes nothing.
+use Prim.Native.Nat.{_≤_}
 use native.Mathlib.Omega.{arith}
-use mathlib.Core.Path.{sym}
+use mathlib.Core.Path.{_≡_, sym}
+use mathlib.Core.Bool.{true≢false}
+use lib.ListN.{length}
 use lib.Seq.{length-take-le}
 use borrow.Author.Needs.{needs}
+use Rattle.feeding.proofs.Answered.{answers-short}
+use Rattle.feeding.proofs.Turned.{turn-failed, kept-within, turn-read}
 use Rattle.feeding.proofs.turn.Statement.{statement}
 use Rattle.feeding.proofs.turn.Tie as tie
 
 fill-requires : tie.Need-fill-requires
 fill-requires c κs = search needs
 
+slice-aggregate-fail : tie.Need-slice-aggregate-fail
+slice-aggregate-fail c = search needs
+
+fail-requires : tie.Need-fail-requires
+fail-requires c κs = search needs
+
 same-length : tie.Need-same-length
 same-length c = search needs
 
 returns : tie.Need-returns
-returns c = search needs
+returns c =
+    let start = c .before .before .before .before .before .before .before .before .before .before .before .before .before in
+    let inside : start .args .kept ≤ length (start .args .text .now) = omega (arith, start .pre .0) in
+    (turn-failed _ _ _ _ _ _ _ inside (c .before .before .before .before .before .before .fill .ensures), λ e. absurd (true≢false (sym e)))
 
 slice-reshare-prefix-answer : tie.Need-slice-reshare-prefix-answer
 slice-reshare-prefix-answer c = search needs
@@ -24,8 +38,12 @@ slice-aggregate-answer c = sym (length-take-le _ _ (slice-reshare-prefix-answer 
 answer-requires : tie.Need-answer-requires
 answer-requires c κs = search needs
 
+-- the buffer is as long as it was
+long : (c : tie.After-struct-known2) → length (c .before .before .before .before .before .before .before .before .before .before .before .before .before .before .before .before .before .before .before .before .fill .last .0) ≡ length (c .before .before .before .before .before .before .before .before .before .before .before .before .before .before .before .before .before .before .before .before .before .before .before .before .before .before .before .args .text .now)
+long c = search needs
+
 sub-keep-rest : tie.Need-sub-keep-rest
-sub-keep-rest c = omega (arith, c .before .before .before .before .before .before .before .before .before .before .answer .ensures, slice-aggregate-answer (c .before .before .before .before .before .before .before .before .before .before .before .before))
+sub-keep-rest c = kept-within _ _ _ _ _ _ _ _ (long c) (c .before .before .before .before .before .before .before .before .before .before .before .before .before .before .before .before .before .before .before .before .fill .ensures) (c .before .before .before .before .before .before .before .before .before .before .answer .ensures)
 
 keep-rest-requires : tie.Need-keep-rest-requires
 keep-rest-requires c κs = search needs
@@ -46,13 +64,20 @@ same-length-6 : tie.Need-same-length-6
 same-length-6 c = search needs
 
 returns-2 : tie.Need-returns-2
-returns-2 c = omega (arith, c .before .before .before .before .before .before .before .before .before .before .before .before .before .answer .ensures, slice-aggregate-answer (c .before .before .before .before .before .before .before .before .before .before .before .before .before .before .before), c .before .before .before .before .before .before .before .before .before .before .before .before .before .before .before .before .before .before .before .before .before .before .before .fill .ensures)
+returns-2 c =
+    let start = c .before .before .before .before .before .before .before .before .before .before .before .before .before .before .before .before .before .before .before .before .before .before .before .before .before .before .before .before .before .before in
+    let call = c .before .before .before .before .before .before .before .before .before .before .before .before .before in (
+      turn-read _ _ _ _ _ _ _ _ (long (c .before .before .before)) (c .before .before .before .before .before .before .before .before .before .before .before .before .before .before .before .before .before .before .before .before .before .before .before .fill .ensures) (call .answer .ensures) _ (c .before .before .keep-rest .ensures),
+      answers-short _ _ _ _ _ (call .answer .ensures) (start .pre .2),
+    )
 
 pub turn-spec : {M : Type 1} → statement M
 turn-spec =
     tie.close
     (tie.spec
     fill-requires
+    slice-aggregate-fail
+    fail-requires
     same-length
     returns
     slice-reshare-prefix-answer
