@@ -23,8 +23,10 @@
 #![deny(unsafe_code)]
 
 mod desk;
+// Not for users: the tests read what the library writes into the out array of a refused call.
+#[doc(hidden)]
 #[allow(unsafe_code)]
-mod ffi;
+pub mod ffi;
 mod refusal;
 mod store;
 
