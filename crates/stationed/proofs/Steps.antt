@@ -16,7 +16,8 @@ use Rattle.desk.specs.Desk.{firstStatement}
 use Rattle.desk.specs.Turns.{closed}
 use Rattle.sessions.proofs.Changes.{Long, isOpen-open}
 use Rattle.seen.proofs.Desks.{begun-long, moved-long, closed-long, fresh-long}
-use Rattle.words.specs.Words.{all-words, deskIn, wordsOf}
+use Rattle.columns.specs.Limits.{sessions, places}
+use Rattle.words.specs.Words.{numbersAt, statementsAt, listsAt, all-words, deskIn, wordsOf}
 use Rattle.words.proofs.Laws.{words-long, desk-back}
 use Rattle.kind.specs.Kind.{rows, entries}
 use Rattle.kind.specs.Areas.{Areas, areas}
@@ -70,9 +71,9 @@ said-long : (w : List ℕ) → length w ≡ all-words → Long (deskIn w)
 unfolding deskIn
 said-long w long =
     record {
-      numbers = length-take-le 16 (drop 1 w) (omega (arith, long, length-drop 1 w));
-      statements = length-take-le 16 (drop 17 w) (omega (arith, long, length-drop 17 w));
-      lists = length-take-le 240 (drop 33 w) (omega (arith, long, length-drop 33 w));
+      numbers = length-take-le sessions (drop numbersAt w) (omega (arith, long, length-drop numbersAt w));
+      statements = length-take-le sessions (drop statementsAt w) (omega (arith, long, length-drop statementsAt w));
+      lists = length-take-le places (drop listsAt w) (omega (arith, long, length-drop listsAt w));
     }
 
 module _ (n : ℕ) (new : Desk) (w : List ℕ) (l : Long new) where

@@ -11,12 +11,13 @@ use lib.Seq.{getD-take, getD-drop}
 use lib.Dec.{eqb, ltb}
 use borrow.Author.Tests.{eqb-true, ltb-true}
 use Rattle.ground.proofs.Ranges.{lt-or-le, and-true-left, all-at}
+use Rattle.columns.specs.Limits.{sessions, members, places, lastStatement}
 use Rattle.places.specs.Places.{follows, placed, ascending}
 use Rattle.desk.specs.declared.Desk.{Desk}
 use Rattle.desk.specs.Sound.{sound}
 use Rattle.sessions.proofs.Changes.{sound-parts, sound-statement}
 use Rattle.sessions.proofs.Lists.{sound-list}
-use Rattle.words.specs.Words.{deskIn}
+use Rattle.words.specs.Words.{numbersAt, statementsAt, listsAt, all-words, deskIn}
 use Rattle.stationed.specs.Stationed.{WideUnsound}
 
 -- a place of a run that ascends below a top is at most that top
@@ -29,22 +30,21 @@ placed-most top l at n up i h = by (eqb (getD l (at + i) 0) 0) refl (all-at (pla
     by false q e = omega (arith, ltb-true (getD l (at + i) 0) top (and-true-left (ltb (getD l (at + i) 0) top) (follows l at i) e))
 
 module _ (d : Desk) (s : sound d ≡ true) where
-  numbers-most : (k : ℕ) → k < 16 → getD (d .numbers) k 0 ≤ 65535
+  numbers-most : (k : ℕ) → k < sessions → getD (d .numbers) k 0 ≤ lastStatement
   numbers-most k h =
       let z : 0 + k ≡ k = omega arith in
       let at : getD (d .numbers) (0 + k) 0 ≡ getD (d .numbers) k 0 = ap (λ (i : ℕ). getD (d .numbers) i 0) z in
-      omega (arith, placed-most (d .next) (d .numbers) 0 16 (sound-parts d s .ascends) k h, sound-parts d s .last, at)
+      omega (arith, placed-most (d .next) (d .numbers) 0 sessions (sound-parts d s .ascends) k h, sound-parts d s .last, at)
 
-  lists-most : (j : ℕ) → j < 240 → getD (d .lists) j 0 ≤ 65535
+  lists-most : (j : ℕ) → j < places → getD (d .lists) j 0 ≤ lastStatement
   lists-most j h =
-      let k : ℕ = j / 15 in
-      let few : j / 15 < 16 = omega arith in
-      let z : j / 15 * 15 + j % 15 ≡ j = omega arith in
-      let at : getD (d .lists) (j / 15 * 15 + j % 15) 0 ≡ getD (d .lists) j 0 = ap (λ (i : ℕ). getD (d .lists) i 0) z in
+      let few : j / members < sessions = omega arith in
+      let z : j / members * members + j % members ≡ j = omega arith in
+      let at : getD (d .lists) (j / members * members + j % members) 0 ≡ getD (d .lists) j 0 = ap (λ (i : ℕ). getD (d .lists) i 0) z in
       omega (
         arith,
-        placed-most (getD (d .numbers) (j / 15) 0) (d .lists) (j / 15 * 15) 15 (sound-list d s (j / 15) few) (j % 15) (omega arith),
-        numbers-most (j / 15) few,
+        placed-most (getD (d .numbers) (j / members) 0) (d .lists) (j / members * members) members (sound-list d s (j / members) few) (j % members) (omega arith),
+        numbers-most (j / members) few,
         at,
       )
 
@@ -54,29 +54,29 @@ column-word at n w k h = getD-take n (drop at w) k 0 h ∙ getD-drop at w k 0
 
 module _ (w : List ℕ) (s : sound (deskIn w) ≡ true) where
   -- the word at index i, by the column that it lies in
-  from-column : (at n i : ℕ) → ((k : ℕ) → k < n → getD (take n (drop at w)) k 0 ≤ 65535) → at ≤ i → i < at + n → getD w i 0 ≤ 65535
+  from-column : (at n i : ℕ) → ((k : ℕ) → k < n → getD (take n (drop at w)) k 0 ≤ lastStatement) → at ≤ i → i < at + n → getD w i 0 ≤ lastStatement
   from-column at n i most low high =
       let z : at + (i - at) ≡ i = omega arith in
       let e : getD w (at + (i - at)) 0 ≡ getD w i 0 = ap (λ (j : ℕ). getD w j 0) z in
       omega (arith, most (i - at) (omega arith), column-word at n w (i - at) (omega arith), e)
 
-  word-most : (i : ℕ) → i < 273 → getD w i 0 ≤ 65535
+  word-most : (i : ℕ) → i < all-words → getD w i 0 ≤ lastStatement
   unfolding deskIn
-  word-most i h = by (lt-or-le i 1)
+  word-most i h = by (lt-or-le i numbersAt)
     where
-      third : (i < 33) ⊎ (33 ≤ i) → 17 ≤ i → getD w i 0 ≤ 65535
-      third (inl l) low = from-column 17 16 i (sound-statement (deskIn w) s) low l
-      third (inr l) low = from-column 33 240 i (lists-most (deskIn w) s) l h
+      third : (i < listsAt) ⊎ (listsAt ≤ i) → statementsAt ≤ i → getD w i 0 ≤ lastStatement
+      third (inl l) low = from-column statementsAt sessions i (sound-statement (deskIn w) s) low l
+      third (inr l) low = from-column listsAt places i (lists-most (deskIn w) s) l h
 
-      second : (i < 17) ⊎ (17 ≤ i) → 1 ≤ i → getD w i 0 ≤ 65535
-      second (inl l) low = from-column 1 16 i (numbers-most (deskIn w) s) low l
-      second (inr l) low = third (lt-or-le i 33) l
+      second : (i < statementsAt) ⊎ (statementsAt ≤ i) → numbersAt ≤ i → getD w i 0 ≤ lastStatement
+      second (inl l) low = from-column numbersAt sessions i (numbers-most (deskIn w) s) low l
+      second (inr l) low = third (lt-or-le i listsAt) l
 
-      by : (i < 1) ⊎ (1 ≤ i) → getD w i 0 ≤ 65535
+      by : (i < numbersAt) ⊎ (numbersAt ≤ i) → getD w i 0 ≤ lastStatement
       by (inl l) =
           let z : i ≡ 0 = omega arith in
           omega (arith, sound-parts (deskIn w) s .last, ap (λ (j : ℕ). getD w j 0) z)
-      by (inr l) = second (lt-or-le i 17) l
+      by (inr l) = second (lt-or-le i statementsAt) l
 
 pub wide-unsound : WideUnsound
 wide-unsound w i h wide = by (sound (deskIn w)) refl

@@ -46,18 +46,7 @@ asked h (sweep first quota) = sweepCall (h .lent) (h .words) first quota
 
 -- what is held then: what the call left; where a format is refused, the areas of before
 abbrev pub lentAfter : Held → Call → Areas
-lentAfter h (format d u s) = kept (asked h (format d u s) .0) (asked h (format d u s) .1 .lent) (h .lent)
-lentAfter h opens = asked h opens .1 .lent
-lentAfter h seal = asked h seal .1 .lent
-lentAfter h begin = asked h begin .1 .lent
-lentAfter h (next x) = asked h (next x) .1 .lent
-lentAfter h (insert x y) = asked h (insert x y) .1 .lent
-lentAfter h (update x q y) = asked h (update x q y) .1 .lent
-lentAfter h (delete x q) = asked h (delete x q) .1 .lent
-lentAfter h (read x q) = asked h (read x q) .1 .lent
-lentAfter h (commit x) = asked h (commit x) .1 .lent
-lentAfter h (withdraw x) = asked h (withdraw x) .1 .lent
-lentAfter h (sweep first quota) = asked h (sweep first quota) .1 .lent
+lentAfter h c = cond (isFormat c) (kept (asked h c .0) (asked h c .1 .lent) (h .lent)) (asked h c .1 .lent)
 
 abbrev pub onward : Held → Call → Held
 onward h c = held (lentAfter h c) (asked h c .1 .words)
