@@ -30,8 +30,8 @@ use Rattle.machine.specs.Machine.{InWork as Working, empty}
 use Rattle.machine.proofs.Follows.{machine-ext, no-work-no-session}
 use Rattle.seen.specs.Seen.{asStanding, standings}
 use Rattle.seen.proofs.Desks.{fresh-sessions, fresh-long}
-use Rattle.recorded.proofs.Kept.{sealed-rows, sealed-whole, sealed-standing, fresh-rows, fresh-whole, fresh-standing}
-use Rattle.upright.proofs.Statuses.{sealable-sealed, sealable-fresh}
+use Rattle.upheld.proofs.Kept.{sealed-rows, sealed-whole, sealed-standing, fresh-rows, fresh-whole, fresh-standing}
+use Rattle.upheld.proofs.Statuses.{sealable-sealed, sealable-fresh}
 use Rattle.history.specs.World.{World, world, turn}
 use Rattle.history.proofs.Worlds.{seen, Good, Goes, stay-allowed}
 

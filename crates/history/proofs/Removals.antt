@@ -27,10 +27,10 @@ use Rattle.seen.specs.Seen.{standings, rowOf}
 use Rattle.seen.proofs.Desks.{closed-sessions, closed-long}
 use Rattle.seen.proofs.Marks.{mark-is}
 use Rattle.seen.proofs.Standings.{standings-put}
-use Rattle.removed.proofs.Withdrawals.{withdraw-rows, withdraw-whole, withdraw-shaped}
-use Rattle.removed.proofs.Sweeps.{sweep-rows, sweep-whole, sweep-shaped}
-use Rattle.upright.proofs.Calls.{sealable-undone, sealable-swept}
-use Rattle.upright.proofs.Statuses.{sealable-status, highest-status}
+use Rattle.upheld.proofs.Withdrawals.{withdraw-rows, withdraw-whole, withdraw-shaped}
+use Rattle.upheld.proofs.Sweeps.{sweep-rows, sweep-whole, sweep-shaped}
+use Rattle.upheld.proofs.Headers.{sealable-undone, sealable-swept}
+use Rattle.upheld.proofs.Statuses.{sealable-status, highest-status}
 use Rattle.history.specs.World.{World, world, turn}
 use Rattle.history.proofs.Worlds.{seen, Good, Goes, stay-allowed}
 use Rattle.history.proofs.Sessions.{found}

@@ -31,7 +31,7 @@ use Rattle.history.specs.World.{World, world, turn}
 use Rattle.seen.proofs.Desks.{find-open, moved-sessions, moved-long, closed-sessions, closed-long, begun-sessions, begun-long}
 use Rattle.seen.proofs.Counts.{open-at-most}
 use Rattle.seen.proofs.Standings.{standings-put, standings-field}
-use Rattle.upright.proofs.Statuses.{sealable-status, sealable-begun, highest-status, highest-begun}
+use Rattle.upheld.proofs.Statuses.{sealable-status, sealable-begun, highest-status, highest-begun}
 use Rattle.history.proofs.Worlds.{seen, Good, Goes, stay-allowed}
 
 module _ (w : World) (g : Good w) where

@@ -25,8 +25,8 @@ use Rattle.machine.specs.Machine.{Session, find, isNil, presently, statementIn,
 use Rattle.machine.proofs.Follows.{machine-ext}
 use Rattle.seen.specs.Seen.{openSessions, standings, rowOf}
 use Rattle.seen.proofs.Desks.{find-open}
-use Rattle.recorded.proofs.Written.{insert-rows, delete-rows, update-rows, length-inserted, length-deleted, length-updatedData, length-updatedUndo}
-use Rattle.upright.proofs.Calls.{sealable-inserted, sealable-deleted, sealable-updatedData, sealable-updatedUndo}
+use Rattle.upheld.proofs.Written.{insert-rows, delete-rows, update-rows, length-inserted, length-deleted, length-updatedData, length-updatedUndo}
+use Rattle.upheld.proofs.Headers.{sealable-inserted, sealable-deleted, sealable-updatedData, sealable-updatedUndo}
 use Rattle.history.specs.World.{World, world, turn}
 use Rattle.history.proofs.Worlds.{seen, Good, Goes, stay-allowed}
 use Rattle.seen.proofs.Rows.{row-empty}

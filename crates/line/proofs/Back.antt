@@ -7,8 +7,8 @@ use native.Mathlib.Omega.{arith}
 use lib.ListN.{length, length-append}
 use lib.Dec.{eqb, ltb}
 use borrow.Author.Tests.{ltb-false, le-ltb}
-use Rattle.span.specs.Span.{parts, lacks}
-use Rattle.span.proofs.Spans.{parts-joined, parts-alone}
+use Rattle.lines.specs.Span.{parts, lacks}
+use Rattle.lines.proofs.Spans.{parts-joined, parts-alone}
 use Rattle.little.specs.Little.{Bytes}
 use Rattle.numeral.specs.Numeral.{numeralOf, hexOf}
 use Rattle.numeral.proofs.Laws.{number-back, numeral-length, numeral-no-tab, numeral-no-newline, body-back, hex-length, hex-no-tab, hex-no-newline}

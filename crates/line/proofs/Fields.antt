@@ -8,8 +8,8 @@ use lib.ListN.{length, take, drop, length-drop}
 use lib.Seq.{drop-drop}
 use lib.Dec.{eqb, ltb}
 use borrow.Author.Tests.{lt-ltb, le-ltb, ltb-true, ltb-false, eq-eqb, ne-eqb}
-use Rattle.span.specs.Span.{before, parts}
-use Rattle.span.proofs.Spans.{before-length, before-take, parts-cut}
+use Rattle.lines.specs.Span.{before, parts}
+use Rattle.lines.proofs.Spans.{before-length, before-take, parts-cut}
 use Rattle.numeral.specs.declared.Number.{Number}
 use Rattle.numeral.specs.Numeral.{numberIn, isBody, bodyIn}
 use Rattle.line.specs.declared.Verb.{Verb}

@@ -9,7 +9,7 @@ use Rattle.little.specs.Little.{Bytes}
 use Rattle.numeral.specs.declared.Number.{Number}
 use Rattle.numeral.specs.declared.Number.the-variants.{Is, Not}
 use Rattle.numeral.specs.Numeral.{numberIn, numeralOf, isBody, bodyIn, hexOf}
-use Rattle.span.specs.Span.{parts}
+use Rattle.lines.specs.Span.{parts}
 use Rattle.line.specs.declared.Verb.{Verb}
 use Rattle.line.specs.declared.Verb.the-variants.{Format, Open, Seal, Begin, Next, Insert, Update, Delete, Read, Commit, Withdraw, Sweep, IllFormed}
 use Rattle.line.specs.declared.Call.{Call}

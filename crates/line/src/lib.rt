@@ -160,7 +160,7 @@ fn number_at(line: &[u8], at: usize, wanted: bool) -> NumberField
         };
     }
     let from = at + 1;
-    let end = span::find(line, from, span::TAB);
+    let end = lines::find(line, from, lines::TAB);
     match numeral::read_number(&line[from..end]) {
         Number::Is(value) => NumberField {
             good: true,
@@ -196,7 +196,7 @@ fn body_at(line: &[u8], at: usize, wanted: bool) -> BodyField
         };
     }
     let from = at + 1;
-    let end = span::find(line, from, span::TAB);
+    let end = lines::find(line, from, lines::TAB);
     let read = numeral::read_body(&line[from..end]);
     let bytes = read.bytes;
     BodyField {
@@ -225,7 +225,7 @@ pub fn read_call(line: &[u8]) -> Call
     if line.len() > LONGEST {
         return ill_formed();
     }
-    let end = span::find(line, 0, span::TAB);
+    let end = lines::find(line, 0, lines::TAB);
     let verb = verb_of(&line[0..end]);
     let n = numbers(verb);
     let first = number_at(line, end, n > 0);

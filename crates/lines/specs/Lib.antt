@@ -1,1 +1,2 @@
+pub mod Span
 pub mod Lines

@@ -5,7 +5,7 @@ use mathlib.Core.List.{List}
 use lib.ListN.{length, drop}
 use lib.Dec.{ltb}
 use denote.Ref.{now}
-use Rattle.span.specs.Span.{before}
+use Rattle.lines.specs.Span.{before}
 use Rattle.lines.specs.declared.Line.{Line}
 use Rattle.lines.specs.declared.Reader.{Reader}
 use Rattle.lines.specs.declared.Read.{Read}

@@ -1,6 +1,15 @@
-// The line reader ("01, The script and one whole run"): "The line reader keeps hold of the lent text and its place in it."
+// A text parted by a byte, and the line reader ("01, The script and one whole run"): "fields parted by one tab, newline after each line"; "The line
+// reader keeps hold of the lent text and its place in it."
 ghost use mathlib.Core.Path.{_≡_};
+ghost use Prim.Native.Nat.{_+_, _≤_};
+ghost use lib.ListN.{length, drop};
+ghost use Rattle.lines.specs.Span.{before};
 ghost use Rattle.lines.specs.Lines.{lineAt, readFrom};
+
+// What parts the fields of a line, and what ends one.
+pub const TAB: u8 = 9;
+
+pub const NEWLINE: u8 = 10;
 
 // A line of a text: where it begins and ends, whether a newline ends it or the text does, and the place behind it.
 pub struct Line {
@@ -22,11 +31,25 @@ pub struct Read<'a> {
     pub reader: Reader<'a>,
 }
 
+// Where the next b stands, from a place on; at the text's end where there is none.
+pub fn find(s: &[u8], from: usize, b: u8) -> usize
+    ensures { λ r. ⌜ r ≡ from + length (before b (drop from (now (s .entry)))) ⌝ }
+{
+    let mut i = from;
+    while i < s.len() {
+        if s[i] == b {
+            return i;
+        }
+        i += 1;
+    }
+    i
+}
+
 // The work: the line that begins at a place of a text.
 pub fn line_at(text: &[u8], at: usize) -> Line
     ensures { λ r. ⌜ r ≡ lineAt (now (text .entry)) at ⌝ }
 {
-    let end = span::find(text, at, span::NEWLINE);
+    let end = find(text, at, NEWLINE);
     if end < text.len() {
         Line {
             start: at,

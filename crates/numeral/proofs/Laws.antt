@@ -11,7 +11,7 @@ use borrow.Author.Tests.{ltb-true, leb-true, lt-ltb, eq-eqb, ne-eqb}
 use Rattle.little.specs.Little.{Bytes}
 use Rattle.numeral.specs.declared.Number.the-variants.{Is}
 use Rattle.numeral.specs.Numeral.{digitsAlone, saidFrom, numberIn, spelled, numeralOf, nibbleOf, hexAlone, isBody, bodyIn, hexOf}
-use Rattle.span.specs.Span.{lacks}
+use Rattle.lines.specs.Span.{lacks}
 use Rattle.numeral.proofs.Tests.{and-left, and-right}
 use Rattle.numeral.proofs.Numbers.{numberFrom, numberFrom-start, length-spelled, digitsAlone-spelled, saidFrom-spelled, spelled-leads, spelled-long}
 use Rattle.numeral.proofs.Bodies.{nibbleOf-below, length-hexOf, hexAlone-hexOf, pairs-hexOf}

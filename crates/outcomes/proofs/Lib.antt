@@ -1,3 +1,4 @@
+pub mod Bygone
 pub mod Undones
 pub mod Outcomes
 pub mod Kept

@@ -18,7 +18,7 @@ fn end(out: &mut [u8], at: usize) -> usize
     requires { ⌜ at + 1 ≤ length (now out) ⌝ }
     ensures { λ r. ⌜ Says newline at (now (out .entry)) r (now (out .exit)) ⌝ }
 {
-    out[at] = span::NEWLINE;
+    out[at] = lines::NEWLINE;
     at + 1
 }
 
@@ -27,7 +27,7 @@ fn number(out: &mut [u8], at: usize, n: u64) -> usize
     requires { ⌜ at + 21 ≤ length (now out) ⌝ }
     ensures { λ r. ⌜ Says (tabbed (numeralOf n ∷ [])) at (now (out .entry)) r (now (out .exit)) ⌝ }
 {
-    out[at] = span::TAB;
+    out[at] = lines::TAB;
     at + 1 + numeral::put_number(out, at + 1, n)
 }
 
@@ -36,7 +36,7 @@ fn body_field(out: &mut [u8], at: usize, body: &[u8]) -> usize
     requires { ⌜ (length (now body) ≤ 32) × (at + 65 ≤ length (now out)) ⌝ }
     ensures { λ r. ⌜ Says (tabbed (hexOf (now (body .entry)) ∷ [])) at (now (out .entry)) r (now (out .exit)) ⌝ }
 {
-    out[at] = span::TAB;
+    out[at] = lines::TAB;
     numeral::put_body(out, at + 1, body);
     at + 1 + 2 * body.len()
 }

@@ -12,8 +12,8 @@ use lib.Dec.{eqb, leb, ltb}
 use borrow.Author.Tests.{eqb-true, ne-eqb, lt-ltb, lt-leb, leb-false}
 use Rattle.ground.proofs.Ranges.{lt-or-le}
 use Rattle.ground.proofs.Refusals.{kept-old}
-use Rattle.span.specs.Span.{before, parts, lacks}
-use Rattle.span.proofs.Spans.{before-length, before-whole, parts-cut, parts-ended, parts-last, lacks-before, parts-alone, parts-ended-append, parts-glued}
+use Rattle.lines.specs.Span.{before, parts, lacks}
+use Rattle.lines.proofs.Spans.{before-length, before-whole, parts-cut, parts-ended, parts-last, lacks-before, parts-alone, parts-ended-append, parts-glued}
 use Rattle.kind.specs.Kind.{lengthOk, lengthsOk}
 use Rattle.kind.specs.Areas.{Areas, areas}
 use Rattle.desk.specs.declared.Desk.{Desk}

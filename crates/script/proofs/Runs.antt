@@ -10,8 +10,8 @@ use lib.Dec.{ltb}
 use borrow.Author.Tests.{lt-ltb, le-ltb}
 use Rattle.little.proofs.Parts.{sets-append}
 use Rattle.kind.specs.Areas.{Areas}
-use Rattle.span.specs.Span.{before, parts}
-use Rattle.span.proofs.Spans.{before-length, before-take, parts-cut, parts-ended, parts-last}
+use Rattle.lines.specs.Span.{before, parts}
+use Rattle.lines.proofs.Spans.{before-length, before-take, parts-cut, parts-ended, parts-last}
 use Rattle.lines.specs.Lines.{endFrom}
 use Rattle.line.specs.declared.Call.{Call}
 use Rattle.line.specs.Line.{callOf, ill}

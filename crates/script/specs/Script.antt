@@ -10,7 +10,7 @@ use lib.Dec.{eqb, leb, ltb}
 use Rattle.kind.specs.Kind.{pageSize}
 use Rattle.kind.specs.Areas.{Areas, areas}
 use Rattle.desk.specs.Desk.{noDesk}
-use Rattle.span.specs.Span.{parts}
+use Rattle.lines.specs.Span.{parts}
 use Rattle.line.specs.declared.Verb.{Verb}
 use Rattle.line.specs.declared.Verb.the-variants.{Format, Open, Seal, Begin, Next, Insert, Update, Delete, Read, Commit, Withdraw, Sweep, IllFormed}
 use Rattle.line.specs.declared.Call.{Call}

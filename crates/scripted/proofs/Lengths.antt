@@ -27,7 +27,7 @@ use Rattle.rows.specs.Rows.{viewIn, updated}
 use Rattle.undoing.specs.Undoing.{undone, withdrawn}
 use Rattle.trimming.specs.Trimming.{sweptAt, unlinked, cutAt}
 use Rattle.sweeping.specs.Sweeping.{treated, sweptFrom, swept}
-use Rattle.recorded.proofs.Written.{length-inserted, length-deleted, length-updatedData, length-updatedUndo}
+use Rattle.upheld.proofs.Written.{length-inserted, length-deleted, length-updatedData, length-updatedUndo}
 use Rattle.machine.specs.Lines.{Call, format, opens, seal, begin, next, insert, update, delete, read, commit, withdraw, sweep, isFormat}
 use Rattle.machine.proofs.Basics.{true-false}
 use Rattle.history.specs.World.{World, Turn, after}

@@ -11,7 +11,7 @@ use Rattle.kind.specs.Areas.{Areas}
 use Rattle.machine.specs.Table.{Body, History, plainTable, openIn}
 use Rattle.machine.specs.Lines.{Call, format, opens, seal, begin, next, insert, update, delete, read, commit, withdraw, sweep, Answer, refused, done, historyOf}
 use Rattle.history.specs.World.{World, world, says, after, linesOf}
-use Rattle.span.specs.Span.{parts}
+use Rattle.lines.specs.Span.{parts}
 use Rattle.numeral.specs.Numeral.{numeralOf, hexOf}
 use Rattle.line.specs.declared.Verb.{Verb}
 use Rattle.line.specs.declared.Verb.the-variants.{Format, Open, Seal, Begin, Next, Insert, Update, Delete, Read, Commit, Withdraw, Sweep, IllFormed}

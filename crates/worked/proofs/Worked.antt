@@ -42,14 +42,14 @@ use Rattle.turns.specs.Turns.{beginRefusal, beginRule, commitRefusal, commitRul
 use Rattle.trimming.specs.Trimming.{sweptAll, sweptBehind, sweptRow, sweptVersions}
 use Rattle.sweeping.specs.Sweeping.{sweepRule, treated}
 use Rattle.rows.specs.Rows.{deleteRefusal, deleteRule, insertRefusal, insertRule, readRefusal, readRule, updateRefusal, updateRule, updated}
-use Rattle.span.specs.Span.{lacks, parts}
+use Rattle.lines.specs.Span.{lacks, parts}
 use Rattle.numeral.specs.Numeral.{bodyIn, digitsAlone, glyphOf, hexAlone, hexOf, isBody, nibbleOf, numberIn, numeralOf, pairs, saidFrom, spelled}
 use Rattle.line.specs.Line.{callOf, longest as longest-line, sameAs, verbIn, verbOf, wordOf}
 use Rattle.reply.specs.Reply.{answerLine, longest as longest-answer, tabbed}
 use Rattle.playing.specs.Playing.{Turn, turn, lineOf, beginTurn, commitTurn, deleteTurn, formatTurn, illTurn, insertTurn, playRule, readTurn, sweepTurn, updateTurn}
 use Rattle.script.specs.Script.{Carried, carried, isFormat, station, callIn, Run, ran, output, answers, dataLent, freshStation, lent, lined, named, restOf, rested, runLines, runRule, stepped, turnIn, undoLent}
 use Rattle.script.specs.declared.Station.{Station}
-use Rattle.span.proofs.Spans.{parts-joined}
+use Rattle.lines.proofs.Spans.{parts-joined}
 use Rattle.line.specs.declared.Call.{Call}
 use Rattle.script.proofs.Promises.{answers-next, run-carries}
 use Rattle.worked.specs.Worked.{bytes, run, inputOf, outputOf, start}

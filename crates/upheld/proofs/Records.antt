@@ -20,7 +20,7 @@ use Rattle.whole.proofs.Headers.{pageAt-recounted, headerRight-recounted}
 use Rattle.touching.specs.Touching.{withSlot, withMeta, withEntry}
 use Rattle.freeing.specs.Freeing.{withoutSlot, withoutEntry, sweptSlot, sweptEntry, cutSlot, cutCopy}
 use Rattle.keep.proofs.Promises.{Sealable}
-use Rattle.upright.proofs.Pages.{sealable-page, sealable-txnId}
+use Rattle.upheld.proofs.Pages.{sealable-page, sealable-txnId}
 
 -- ---- the one law
 

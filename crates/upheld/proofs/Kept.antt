@@ -34,7 +34,7 @@ use Rattle.keep.specs.Whole.{freshArea, sealedArea}
 use Rattle.keep.proofs.Promises.{length-freshArea, pageAt-freshArea, statusAt-freshArea, sealedArea-keeps, length-sealedArea, statusAt-sealedArea}
 use Rattle.machine.specs.Machine.{Version as Held}
 use Rattle.seen.specs.Seen.{allHeld, rowOf}
-use Rattle.recorded.proofs.Written.{held}
+use Rattle.upheld.proofs.Written.{held}
 
 -- ---- sealed areas: "Format and seal write" the checksum, which is in no record and no status
 

@@ -21,7 +21,7 @@ use Rattle.trimming.specs.Trimming.{sweptAt, unlinked, cutAt}
 use Rattle.sweeping.specs.Sweeping.{sweptFrom}
 use Rattle.outcomes.proofs.Kept.{Withdraws, Trims, undone-keeps, swept-keeps}
 use Rattle.keep.proofs.Promises.{Sealable}
-use Rattle.upright.proofs.Records.{sealable-withSlot, sealable-withMeta, sealable-withEntry, sealable-withoutSlot, sealable-withoutEntry, sealable-sweptSlot, sealable-sweptEntry, sealable-cutSlot, sealable-cutCopy}
+use Rattle.upheld.proofs.Records.{sealable-withSlot, sealable-withMeta, sealable-withEntry, sealable-withoutSlot, sealable-withoutEntry, sealable-sweptSlot, sealable-sweptEntry, sealable-cutSlot, sealable-cutCopy}
 
 -- ---- the body of a copy, or none
 

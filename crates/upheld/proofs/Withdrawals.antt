@@ -28,7 +28,7 @@ use Rattle.outcomes.proofs.Outcomes.{undone-turns}
 use Rattle.outcomes.proofs.Undones.{ownEnded, undoneRow-treated, undoneRow-none, chainOf-undoneRow-ended, chainOf-undoneRow-made, bodyAt-undoneRow-made, bodyAt-undoneRow-ended, whole-undoneRow}
 use Rattle.machine.specs.Machine.{Version as Held, expired, expireFirst, since, putBack, undone as undoneRows}
 use Rattle.seen.specs.Seen.{heldOf, allHeld, rowOf}
-use Rattle.removed.proofs.Kept.{heldIn, wholeIn, older-kept, within, within-in, rowOf-outside, shaped-after, whole-after, rows-after}
+use Rattle.upheld.proofs.Stays.{heldIn, wholeIn, older-kept, within, within-in, rowOf-outside, shaped-after, whole-after, rows-after}
 
 -- ---- lists of versions
 

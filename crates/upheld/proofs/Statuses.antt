@@ -17,7 +17,7 @@ use Rattle.whole.proofs.Headers.{headerRight-putStatus}
 use Rattle.whole.proofs.Rights.{Fitting, headerRight-freshPage}
 use Rattle.keep.specs.Whole.{freshArea, sealedArea, highest}
 use Rattle.keep.proofs.Promises.{Sealable, length-freshArea, bytes-freshArea, pageAt-freshArea}
-use Rattle.upright.proofs.Pages.{sealable-txnId, sealable-checksum}
+use Rattle.upheld.proofs.Pages.{sealable-txnId, sealable-checksum}
 
 -- ---- a status put
 

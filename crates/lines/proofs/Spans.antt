@@ -9,7 +9,7 @@ use lib.ListN.{length, take, drop, getD, drop-of-length-le}
 use lib.Seq.{take-length, drop-cons}
 use lib.Dec.{eqb, ltb, leb·suc-suc}
 use borrow.Author.Tests.{eqb-true, eq-eqb, ne-eqb, lt-ltb, le-ltb}
-use Rattle.span.specs.Span.{before, onto, parts, lacks}
+use Rattle.lines.specs.Span.{before, onto, parts, lacks}
 
 -- ---- before
 

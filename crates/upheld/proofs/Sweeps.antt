@@ -21,7 +21,7 @@ use Rattle.versions.specs.Versions.{AllWhole}
 use Rattle.machine.specs.Machine.{Version as Held, dead, cut}
 use Rattle.seen.specs.Seen.{standings, heldOf, allHeld, rowOf}
 use Rattle.seen.proofs.Walked.{dead-is}
-use Rattle.removed.proofs.Kept.{heldIn, wholeIn, row-kept, shaped-after, whole-after, rows-after}
+use Rattle.upheld.proofs.Stays.{heldIn, wholeIn, row-kept, shaped-after, whole-after, rows-after}
 
 module _ (m : ℕ) (s : List ℕ) where
   -- ---- lists of versions

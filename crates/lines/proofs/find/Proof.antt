@@ -1,14 +1,14 @@
--- `span::find` meets its contract. The loop's invariant: the search from here on ends where the search from the start does.
+-- `lines::find` meets its contract. The loop's invariant: the search from here on ends where the search from the start does.
 -- Assumes nothing.
 use mathlib.Core.Path.{_≡_, refl}
 use Prim.Native.Nat.{_+_, _-_}
 use native.Mathlib.Omega.{arith}
 use lib.ListN.{length, drop}
 use borrow.Author.Needs.{needs}
-use Rattle.span.specs.Span.{before}
-use Rattle.span.proofs.Spans.{before-here, before-next, before-end}
-use Rattle.span.proofs.find.Statement.{statement}
-use Rattle.span.proofs.find.Tie as tie
+use Rattle.lines.specs.Span.{before}
+use Rattle.lines.proofs.Spans.{before-here, before-next, before-end}
+use Rattle.lines.proofs.find.Statement.{statement}
+use Rattle.lines.proofs.find.Tie as tie
 
 abbrev Inv-loop : tie.InvT-loop
 Inv-loop s from b i₀ i = i + length (before b (drop i s)) ≡ from + length (before b (drop from s))

@@ -1,1 +1,0 @@
-// No code: proofs/ has the law that what the sweep removes is there for no open session.

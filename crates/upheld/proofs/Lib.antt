@@ -1,0 +1,9 @@
+pub mod Written
+pub mod Kept
+pub mod Stays
+pub mod Withdrawals
+pub mod Sweeps
+pub mod Pages
+pub mod Records
+pub mod Headers
+pub mod Statuses

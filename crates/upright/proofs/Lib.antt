@@ -1,4 +1,0 @@
-pub mod Pages
-pub mod Records
-pub mod Calls
-pub mod Statuses

@@ -1,1 +1,0 @@
-// No code: proofs/ has the laws that headers stay right whatever the calls write, so that a sealed store opens.
