@@ -1,4 +1,4 @@
--- A call's line reads back as that call; it has at most 128 bytes, and no newline. For whoever prints calls. Assumes nothing.
+-- A call's line reads back as that call; it is not too long, and has no newline. For whoever prints calls. Assumes nothing.
 use mathlib.Core.Path.{_≡_, refl, ap, _∙_}
 use mathlib.Core.Bool.{Bool, true, false, not, _&&_, cond}
 use mathlib.Core.List.{List, [], _∷_, _++_, append-nil, append-assoc}
@@ -105,9 +105,9 @@ module _ (c : Call) (p : Proper c) where
   abbrev second-said : Bool
   second-said = ltb 1 (numbersOf (c .verb))
 
-  -- at most 128 bytes: a name has at most 8, a number 20, a body 64, and a tab stands before each field
-  pub line-length : length (lineOf c) ≤ 128
-  unfolding lineOf
+  -- not too long: a name has at most 8, a number 20, a body 64, and a tab stands before each field
+  pub line-length : length (lineOf c) ≤ longest
+  unfolding lineOf longest
   line-length =
       simp length-append
       (omega (
@@ -151,9 +151,9 @@ module _ (c : Call) (p : Proper c) where
       flat = simp (append-assoc, append-nil)
 
   pub call-back : callOf (lineOf c) ≡ c
-  unfolding callOf longest
+  unfolding callOf
   call-back =
-      ap (λ (t : Bool). cond t ill (callIn (parts 9 (lineOf c)))) (le-ltb 128 (length (lineOf c)) line-length)
+      ap (λ (t : Bool). cond t ill (callIn (parts 9 (lineOf c)))) (le-ltb longest (length (lineOf c)) line-length)
       ∙ ap callIn line-parts
       ∙ rw (
         verb-back (c .verb) (p .named),

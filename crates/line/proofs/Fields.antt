@@ -100,16 +100,16 @@ none-left s at h = by (ltb at (length s)) refl
 pub name-inside : (s : List ℕ) (end : ℕ) → end ≡ 0 + length (before 9 s) → end ≤ length s
 name-inside s end e = omega (arith, before-length 9 s)
 
-pub call-long : (s : List ℕ) → 128 < length s → ill ≡ callOf s
-unfolding callOf longest
-call-long s h = rw (lt-ltb 128 (length s) h)
+pub call-long : (s : List ℕ) → longest < length s → ill ≡ callOf s
+unfolding callOf
+call-long s h = rw (lt-ltb longest (length s) h)
 
--- a line of at most 128 bytes: its name, and what stands behind it
-pub call-named : (s : List ℕ) (end : ℕ) (v : Verb) → length s ≤ 128 → end ≡ 0 + length (before 9 s) → v ≡ verbOf (take (end - 0) s)
+-- a line that is not too long: its name, and what stands behind it
+pub call-named : (s : List ℕ) (end : ℕ) (v : Verb) → length s ≤ longest → end ≡ 0 + length (before 9 s) → v ≡ verbOf (take (end - 0) s)
     → callOf s ≡ called v (left s end)
-unfolding callOf longest left
+unfolding callOf left
 call-named s end v h e q =
-    ap (λ (t : Bool). cond t ill (callIn (fields s))) (le-ltb 128 (length s) h)
+    ap (λ (t : Bool). cond t ill (callIn (fields s))) (le-ltb longest (length s) h)
     ∙ ap callIn (parts-cut 9 s)
     ∙ ap (λ (n : ℕ). called (verbOf (before 9 s)) (cond (ltb n (length s)) (parts 9 (drop (n + 1) s)) [])) long
     ∙ ap (λ (u : Verb). called u (cond (ltb end (length s)) (parts 9 (drop (end + 1) s)) [])) (named ∙ sym q)

@@ -5,7 +5,7 @@ use Prim.Native.Nat.{_≤_}
 use lib.ListN.{length}
 use lib.Dec.{eqb}
 use borrow.Author.Needs.{needs}
-use Rattle.line.specs.Line.{call, ill, callOf}
+use Rattle.line.specs.Line.{call, ill, callOf, longest}
 use Rattle.line.proofs.Fields.{name-inside, call-long, call-named, called-read}
 use Rattle.line.proofs.read_call.Statement.{statement}
 use Rattle.line.proofs.read_call.Tie as tie
@@ -14,6 +14,7 @@ ill-formed-requires : tie.Need-ill-formed-requires
 ill-formed-requires c κs = search needs
 
 returns : tie.Need-returns
+unfolding longest
 returns c = c .ill-formed .ensures ∙ call-long _ (c .before .if1 .taken)
 
 find-requires : tie.Need-find-requires
@@ -62,6 +63,7 @@ says : (c : tie.After-body-at) (t : Bool)
     (a .good && b .good && e .good && eqb (e .end) (length (start .args .line .now))) ≡ t
     → callOf (start .args .line .now)
     ≡ cond t (call (c .before .before .before .before .before .verb-of .result) (a .value) (b .value) (e .bytes)) ill
+unfolding longest
 says c t test =
     let first = c .before .before .before in
     let named = first .before .before in
