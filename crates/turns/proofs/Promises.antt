@@ -45,18 +45,19 @@ module _ (w w′ : List ℕ) (long : length w ≡ all-words) (long′ : length w
       → ((r ≡ r′) × (w ≡ w′)) × (x ≡ x′)
   commit-once a d s r r′ x x′ p q = let o = once p q in (saidMoved-injective r r′ (o .0), o .1)
 
--- ---- a refused call leaves everything
+-- ---- a refused call leaves everything, and reports 0
 
-pub begin-refused : (a : Areas) (d : Desk) → (beginRule a d .0 .0 ≡ 0 → ⊥) → (beginRule a d .0 .2 ≡ d) × (beginRule a d .1 ≡ a .status)
+pub begin-refused : (a : Areas) (d : Desk) → (beginRule a d .0 .0 ≡ 0 → ⊥)
+    → (beginRule a d .0 .2 ≡ d) × (beginRule a d .1 ≡ a .status) × (beginRule a d .0 .1 ≡ 0)
 unfolding beginRule
 begin-refused a d =
     settled
     ((0, d .next, begun d), putField txnId 0 (d .next) (putStatus (d .next) InWork (a .status)))
     (λ (n : ℕ). ((n, 0, d), a .status))
     (beginRefusal a d)
-    (λ (y : (ℕ × ℕ × Desk) × List ℕ). (y .0 .0 ≡ 0 → ⊥) → (y .0 .2 ≡ d) × (y .1 ≡ a .status))
+    (λ (y : (ℕ × ℕ × Desk) × List ℕ). (y .0 .0 ≡ 0 → ⊥) → (y .0 .2 ≡ d) × (y .1 ≡ a .status) × (y .0 .1 ≡ 0))
     (λ e h. absurd (h refl))
-    (λ m h. (refl, refl))
+    (λ m h. (refl, refl, refl))
 
 pub next-refused-leaves : (a : Areas) (d : Desk) (x : ℕ) → (nextRule a d x .0 ≡ 0 → ⊥) → nextRule a d x .1 ≡ d
 unfolding nextRule
