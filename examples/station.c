@@ -1,6 +1,6 @@
 /*
  * A small station: it formats a store, enters two measurements, corrects one while an inspector is
- * still reading, sweeps, seals, and prints what it gets.
+ * still reading, is refused a second correction, sweeps, seals, and prints what it gets.
  *
  *   cc -Wall -Wextra -Iinclude examples/station.c target/staticlib/libstation.a -o station
  */
@@ -19,8 +19,6 @@ static uint8_t undo[CHIRIMOK_PAGE];
 static uint8_t status[CHIRIMOK_PAGE];
 static struct chirimok_desk desk;
 
-_Static_assert(sizeof desk == 273 * sizeof(uint32_t), "the desk is 273 words");
-
 /* The areas in the order in which every call takes them. */
 #define AREAS data, sizeof data, undo, sizeof undo, status, sizeof status
 
@@ -28,7 +26,7 @@ _Static_assert(sizeof desk == 273 * sizeof(uint32_t), "the desk is 273 words");
 static void must(const char *call, uint32_t answer)
 {
     if (answer != CHIRIMOK_DONE) {
-        fprintf(stderr, "%s: refused with %" PRIu32 "\n", call, answer);
+        fprintf(stderr, "%s: %s (%" PRIu32 ")\n", call, chirimok_refusal(answer), answer);
         exit(EXIT_FAILURE);
     }
 }
@@ -64,12 +62,15 @@ static uint64_t enter(uint64_t session, const char *text)
     return out[0];
 }
 
-static void correct(uint64_t session, uint64_t row, const char *text)
+/* A correction may be refused: another may have been quicker. */
+static uint32_t correct(uint64_t session, uint64_t row, const char *text)
 {
     uint8_t body[CHIRIMOK_BODY];
     make_body(body, text);
-    must("update", chirimok_update(AREAS, &desk, session, row, body, sizeof body));
-    printf("update: row %" PRIu64 " \"%s\"\n", row, text);
+    uint32_t answer = chirimok_update(AREAS, &desk, session, row, body, sizeof body);
+    printf("update: row %" PRIu64 " \"%s\": %s (%" PRIu32 ")\n",
+           row, text, chirimok_refusal(answer), answer);
+    return answer;
 }
 
 /* The body is used where it lies. */
@@ -77,11 +78,11 @@ static void show(uint64_t session, uint64_t row)
 {
     uint64_t out[3];
     must("read", chirimok_read(AREAS, &desk, session, row, out));
-    const uint8_t *area = out[1] == 1 ? data : undo;
+    const uint8_t *area = out[1] == CHIRIMOK_IN_DATA ? data : undo;
     printf("read: session %" PRIu64 " finds \"%.*s\" in row %" PRIu64
            ", %s area, after %" PRIu64 " version(s)\n",
            session, CHIRIMOK_BODY, (const char *)(area + out[2]), row,
-           out[1] == 1 ? "data" : "undo", out[0]);
+           out[1] == CHIRIMOK_IN_DATA ? "data" : "undo", out[0]);
 }
 
 static void sweep(void)
@@ -103,9 +104,12 @@ int main(void)
 
     uint64_t inspector = begin();
     writer = begin();
-    correct(writer, bolt, "bolt 8.02 mm");
+    must("update", correct(writer, bolt, "bolt 8.02 mm"));
     commit(writer);
     show(inspector, bolt);
+    if (correct(inspector, bolt, "bolt 8.03 mm") == CHIRIMOK_WRITER_COMMITTED) {
+        puts("the inspector only reads on");
+    }
     sweep(); /* The inspector may still read the old measurement: nothing goes. */
     commit(inspector);
     sweep();

@@ -4,29 +4,73 @@
  * The library keeps nothing between calls and allocates nothing. It works on memory that the caller
  * lends for the length of a call:
  *
- *   data    1 to 64 pages of CHIRIMOK_PAGE bytes; 127 rows in each
- *   undo    1 to 64 pages; 101 older versions of rows in each
- *   status  exactly 1 page; the states of 32,575 session numbers
+ *   data    1 to CHIRIMOK_PAGES pages of CHIRIMOK_PAGE bytes; CHIRIMOK_ROWS_PER_PAGE rows in each
+ *   undo    1 to CHIRIMOK_PAGES pages; CHIRIMOK_ENTRIES_PER_PAGE older versions of rows in each
+ *   status  exactly 1 page; the states of CHIRIMOK_LAST_NUMBER session numbers
  *   desk    the open sessions, struct chirimok_desk
  *
  * Areas are passed as a pointer and a length in bytes and need no alignment. The desk must be
  * aligned for uint32_t (4 bytes), the out arrays for uint64_t (8 bytes). No two of the lent parts
  * may overlap. No pointer may be NULL, even where its length is 0. A call never writes where a
  * parameter points to const. It writes the out array always, and the areas and the desk only if it
- * is accepted.
+ * is accepted. How many pages a store has is not kept in it: lend as many as were formatted.
  *
  * Threads: calls on different stores may run at the same time. Calls on one store may not, unless
  * all of them are reads, each with an out array of its own.
- *
- * Each call answers CHIRIMOK_DONE or the number of its refusal. Where several refusals apply, the
- * lowest is given. A refused call leaves areas and desk as they were and fills its out array with
- * zeros. Every call can answer CHIRIMOK_AREA_LENGTH; every call but format and open can answer
- * CHIRIMOK_UNSOUND_DESK. The other numbers are listed at each call.
  *
  * The usual course: format once, or open what was sealed; then begin, any number of reads and
  * writes with next between statements, commit or withdraw; now and then a sweep; at the end, when
  * no session is open, seal. Store the three areas then; the desk need not be stored, open makes a
  * new one.
+ *
+ * Warning: a store has one desk, the one that the last accepted call left. Keep no copies of it.
+ * Who lends an older copy works with sessions and numbers that are past: a closed session is open
+ * again, or begin hands a number out a second time, and withdrawing it takes back what was
+ * committed under it. Rows can be lost while every call answers CHIRIMOK_DONE: as long as it is
+ * sound, the store cannot tell an older desk, or another store's, from the last one.
+ * CHIRIMOK_UNSOUND_DESK is answered only where a desk breaks one of its rules. One sign can be
+ * looked for, which not every wrong desk shows: desk.next should be one more than the highest
+ * number handed out, which stands in bytes 8 to 15 of the status page, little-endian. Work that is
+ * put away unsealed is put away with its desk.
+ *
+ * Answers: each call answers CHIRIMOK_DONE or the number of its refusal. Where several refusals
+ * apply, the lowest is given. A refused call leaves areas and desk as they were and fills its out
+ * array with zeros. Every call can answer 1; every call but format and open can answer 2. The other
+ * numbers are listed at each call. What each says, and what a station does about it:
+ *
+ *    1  An area's length isn't allowed. Lend whole pages: 1 to CHIRIMOK_PAGES of data, 1 to
+ *       CHIRIMOK_PAGES of undo, exactly 1 of status.
+ *    2  The desk is unsound: it was never filled in, or was written over. Lend the one that the
+ *       last accepted call left, and no copy from before; where it is lost, open the areas as they
+ *       were sealed last.
+ *    3  A header field is wrong, or a number isn't closed: the areas hold no store, are damaged, or
+ *       were not sealed after the last write. Open another copy that was sealed; format begins an
+ *       empty store.
+ *    4  The session is not open: it is closed, or was never begun here. Begin one.
+ *    5  No such row, or the body isn't CHIRIMOK_BODY bytes long. Mend the argument: a store has
+ *       CHIRIMOK_ROWS_PER_PAGE rows for each page of data.
+ *    6  The row's chain of older versions is broken: the areas are damaged, or a desk was lent that
+ *       was not the last. A store that the calls alone wrote since its format, each with the last
+ *       desk, never answers it. Go back to a copy that was sealed; rows whose chains are whole can
+ *       still be read.
+ *    7  No version of the row is there for the session: the row is empty or deleted, or was written
+ *       by someone whom the session does not see. What it inserted itself in this statement is
+ *       there after chirimok_next.
+ *    8  The session itself wrote the row in this statement, or deleted it. Call chirimok_next
+ *       first; a row that it deleted is then gone (7).
+ *    9  Another writer of the row is not committed. Try again when that session is closed: after
+ *       its withdrawal the row can be written, after its commit the answer is 10.
+ *   10  A writer of the row whom the session does not see is committed. This session cannot write
+ *       the row any more: withdraw it and begin another, or go on with other rows.
+ *   11  No empty slot (insert), or no free entry (update). Sweep all rows and try again; if nothing
+ *       went, end the oldest session and sweep again. With no session open, a sweep frees every
+ *       entry; slots are then held by rows alone: delete some and sweep, or move to a larger store.
+ *   12  CHIRIMOK_SESSIONS sessions are open. Commit or withdraw one.
+ *   13  All numbers are handed out. They never return: format a store anew. What shall be carried
+ *       over is read by a session that is open, so keep the last number for that.
+ *   14  The session is in its last statement. It can still read, write, commit and withdraw; go on
+ *       in another.
+ *   15  Seal found an open session. Commit or withdraw those in desk.numbers, and seal again.
  */
 #ifndef CHIRIMOK_H
 #define CHIRIMOK_H
@@ -38,41 +82,104 @@
 extern "C" {
 #endif
 
-#define CHIRIMOK_PAGE 8192
-#define CHIRIMOK_BODY 32
-#define CHIRIMOK_ROWS_PER_PAGE 127
+/*
+ * The version of this interface. The major number grows where a program has to be changed or
+ * compiled anew: a name, a parameter, a layout or the meaning of an answer is another. The minor
+ * number grows where something is added. (The format_version in each page is another count.)
+ */
+#define CHIRIMOK_VERSION_MAJOR 1
+#define CHIRIMOK_VERSION_MINOR 0
+#define CHIRIMOK_VERSION (CHIRIMOK_VERSION_MAJOR * 1000 + CHIRIMOK_VERSION_MINOR)
+
+/* Sizes and limits. */
+#define CHIRIMOK_PAGE 8192             /* bytes in a page */
+#define CHIRIMOK_PAGES 64              /* most pages of data, and most pages of undo */
+#define CHIRIMOK_BODY 32               /* bytes in a body */
+#define CHIRIMOK_ROWS_PER_PAGE 127     /* rows in a page of data */
+#define CHIRIMOK_ENTRIES_PER_PAGE 101  /* older versions in a page of undo */
+#define CHIRIMOK_SESSIONS 16           /* most sessions open at a time */
+#define CHIRIMOK_LAST_NUMBER 32575     /* the highest number that a session gets */
+#define CHIRIMOK_LAST_STATEMENT 65535  /* the statement from which a session cannot move on */
+
+/* Where a body lies, in out[1] of chirimok_read. */
+#define CHIRIMOK_IN_DATA 1
+#define CHIRIMOK_IN_UNDO 2
 
 /* Answers. */
 enum {
     CHIRIMOK_DONE = 0,
-    CHIRIMOK_AREA_LENGTH = 1,         /* an area's length isn't allowed */
-    CHIRIMOK_UNSOUND_DESK = 2,        /* the desk breaks one of its rules */
-    CHIRIMOK_UNSOUND_STORE = 3,       /* a header field is wrong, or a number isn't closed */
+    CHIRIMOK_AREA_LENGTH = 1,
+    CHIRIMOK_UNSOUND_DESK = 2,
+    CHIRIMOK_UNSOUND_STORE = 3,
     CHIRIMOK_SESSION_NOT_OPEN = 4,
-    CHIRIMOK_ROW_OR_BODY = 5,         /* no such row, or the body isn't 32 bytes long */
-    CHIRIMOK_BROKEN_CHAIN = 6,        /* a row's older versions can't be followed */
-    CHIRIMOK_NO_VERSION = 7,          /* nothing in this row for this session */
-    CHIRIMOK_OWN_WRITE = 8,           /* the session wrote it in this statement, or deleted it */
-    CHIRIMOK_WRITER_IN_WORK = 9,      /* another session wrote it and is not committed */
-    CHIRIMOK_WRITER_COMMITTED = 10,   /* another session wrote it and is committed, unseen */
-    CHIRIMOK_NO_ROOM = 11,            /* no empty slot (insert), no free entry (update) */
-    CHIRIMOK_SESSIONS_FULL = 12,      /* sixteen sessions are open */
-    CHIRIMOK_NUMBERS_USED_UP = 13,    /* all 32,575 numbers are handed out */
-    CHIRIMOK_STATEMENTS_USED_UP = 14, /* the session is in statement 65,535 */
-    CHIRIMOK_SESSION_OPEN = 15        /* seal found an open session */
+    CHIRIMOK_ROW_OR_BODY = 5,
+    CHIRIMOK_BROKEN_CHAIN = 6,
+    CHIRIMOK_NO_VERSION = 7,
+    CHIRIMOK_OWN_WRITE = 8,
+    CHIRIMOK_WRITER_IN_WORK = 9,
+    CHIRIMOK_WRITER_COMMITTED = 10,
+    CHIRIMOK_NO_ROOM = 11,
+    CHIRIMOK_SESSIONS_FULL = 12,
+    CHIRIMOK_NUMBERS_USED_UP = 13,
+    CHIRIMOK_STATEMENTS_USED_UP = 14,
+    CHIRIMOK_SESSION_OPEN = 15
 };
+
+/* What an answer says, as a text that stays. */
+static inline const char *chirimok_refusal(uint32_t code)
+{
+    switch (code) {
+    case CHIRIMOK_DONE:
+        return "done";
+    case CHIRIMOK_AREA_LENGTH:
+        return "an area's length isn't allowed";
+    case CHIRIMOK_UNSOUND_DESK:
+        return "the desk is unsound";
+    case CHIRIMOK_UNSOUND_STORE:
+        return "a header field is wrong, or a number isn't closed";
+    case CHIRIMOK_SESSION_NOT_OPEN:
+        return "the session is not open";
+    case CHIRIMOK_ROW_OR_BODY:
+        return "no such row, or the body isn't 32 bytes long";
+    case CHIRIMOK_BROKEN_CHAIN:
+        return "the row's chain is broken";
+    case CHIRIMOK_NO_VERSION:
+        return "no version of the row is there for the session";
+    case CHIRIMOK_OWN_WRITE:
+        return "the session itself wrote or deleted the row";
+    case CHIRIMOK_WRITER_IN_WORK:
+        return "another writer of the row is not committed";
+    case CHIRIMOK_WRITER_COMMITTED:
+        return "a writer of the row whom the session does not see is committed";
+    case CHIRIMOK_NO_ROOM:
+        return "no empty slot, or no free undo entry";
+    case CHIRIMOK_SESSIONS_FULL:
+        return "sixteen sessions are open";
+    case CHIRIMOK_NUMBERS_USED_UP:
+        return "all numbers are handed out";
+    case CHIRIMOK_STATEMENTS_USED_UP:
+        return "the session is in its last statement";
+    case CHIRIMOK_SESSION_OPEN:
+        return "a session is open";
+    default:
+        return "no answer of this store";
+    }
+}
 
 /*
  * The desk: 273 words of 32 bits. format and open fill one in; the caller keeps it and lends it to
  * each call. seal, insert, update, delete, read and sweep only look at it; begin, next, commit and
- * withdraw change it. Reading it is fine, writing it is not: a desk that breaks a rule is answered
- * with CHIRIMOK_UNSOUND_DESK.
+ * withdraw change it. Reading it is fine; writing it is not, nor is lending an older copy.
  */
 struct chirimok_desk {
-    uint32_t next;           /* the number that the next session gets, 1 to 32,576 */
-    uint32_t numbers[16];    /* the open sessions' numbers, ascending; unused places are 0 */
-    uint32_t statements[16]; /* the statement of each, 0 to 65,535 */
-    uint32_t lists[16][15];  /* the numbers open when each began, ascending; unused places are 0 */
+    /* the number that the next session gets, 1 to CHIRIMOK_LAST_NUMBER + 1 */
+    uint32_t next;
+    /* the open sessions' numbers, ascending; unused places are 0 */
+    uint32_t numbers[CHIRIMOK_SESSIONS];
+    /* the statement of each, 0 to CHIRIMOK_LAST_STATEMENT */
+    uint32_t statements[CHIRIMOK_SESSIONS];
+    /* the numbers open when each began, ascending; unused places are 0 */
+    uint32_t lists[CHIRIMOK_SESSIONS][CHIRIMOK_SESSIONS - 1];
 };
 
 /*
@@ -85,8 +192,9 @@ uint32_t chirimok_format(uint8_t *data, size_t data_length,
                          struct chirimok_desk *desk);
 
 /*
- * Checks the page headers, checksums and session numbers of a sealed store and writes a desk without
- * sessions over *desk, whatever it held. Refusals: 1, 3.
+ * Checks the page headers, checksums and session numbers of a sealed store and writes a desk
+ * without sessions over *desk, whatever it held; its next number follows the highest handed out.
+ * Refusals: 1, 3.
  */
 uint32_t chirimok_open(const uint8_t *data, size_t data_length,
                        const uint8_t *undo, size_t undo_length,
@@ -159,7 +267,7 @@ uint32_t chirimok_delete(uint8_t *data, size_t data_length,
  * Finds the version of a row that the session sees. Nothing is copied:
  *
  *   out[0]  how many versions were looked at, the one found included
- *   out[1]  where the body lies: 1 in data, 2 in undo (0 after a refusal)
+ *   out[1]  where the body lies: CHIRIMOK_IN_DATA or CHIRIMOK_IN_UNDO (0 after a refusal)
  *   out[2]  the byte offset of its 32 bytes in that area
  *
  * The bytes stay there until the next call that writes the area. Refusals: 1, 2, 4 to 7.

@@ -1,7 +1,7 @@
 #!/bin/sh
 # Tries the eleven breaks of BREAKS.md. Each is applied to a copy of this workspace, and the named test
-# must compile and then fail; on the untouched copy every test must pass. Needs the archive that
-# CHIRIMOK_STATION names, by default ../target/staticlib/libstation.a.
+# must compile and then fail where the two engines differ; on the untouched copy every named test must
+# pass. Needs the archive that CHIRIMOK_STATION names, by default ../target/staticlib/libstation.a.
 set -eu
 
 here=$(cd "$(dirname "$0")" && pwd)
@@ -13,49 +13,51 @@ if [ ! -f "$CHIRIMOK_STATION" ]; then
     exit 2
 fi
 
+# So many rounds bring about every answer that the tests expect, and show every break.
+export CHIRIMOK_ROUNDS=300
+
+# What is built for one break serves the next, which differs in one file of plain. Nobody debugs it.
 work=$(mktemp -d)
 trap 'rm -rf "$work"' EXIT
-export CARGO_TARGET_DIR="$work/target"
+export CARGO_TARGET_DIR="$work/target" CARGO_PROFILE_DEV_DEBUG=0
+mkdir "$work/rust"
+(cd "$here" && tar cf - --exclude=./target .) | (cd "$work/rust" && tar xf -)
+cd "$work/rust"
 unnoticed=0
 
-# A fresh copy of the workspace, without what was built in it.
-copy() {
-    rm -rf "$work/rust"
-    mkdir "$work/rust"
-    (cd "$here" && tar cf - --exclude=./target .) | (cd "$work/rust" && tar xf -)
+# named_test TEST-FILE TEST: runs a test of the copy, with its output in the log.
+named_test() {
+    cargo test --offline -q -p chirimok --test "$1" -- --exact "$2" >"$work/log" 2>&1
 }
 
 # break_it NUMBER FILE SED-EXPRESSION TEST-FILE TEST
 break_it() {
-    copy
-    cd "$work/rust"
-    sed "$3" "$2" >"$work/broken"
-    if cmp -s "$2" "$work/broken"; then
-        echo "break $1: the edit no longer applies to $2" >&2
+    sed "$3" "$here/$2" >"$2"
+    if cmp -s "$here/$2" "$2"; then
+        echo "break $1: the edit finds nothing to change in $2" >&2
         exit 2
     fi
-    cp "$work/broken" "$2"
-    cargo test -q -p chirimok --test "$4" --no-run 2>"$work/log" || {
-        cat "$work/log" >&2
-        echo "break $1: does not compile" >&2
-        exit 2
-    }
-    if cargo test -q -p chirimok --test "$4" "$5" >"$work/log" 2>&1; then
+    if named_test "$4" "$5"; then
         echo "break $1: NOT noticed by $4 ($5)"
         unnoticed=$((unnoticed + 1))
+    elif grep -q 'station and plain' "$work/log"; then
+        echo "break $1: noticed by $4 ($5): $(grep -m 1 -o 'station and plain.*' "$work/log" | cut -c 1-100)"
     else
-        echo "break $1: noticed by $4 ($5):$(sed -n '/panicked/{n;p;q;}' "$work/log")"
+        cat "$work/log" >&2
+        echo "break $1: $4 ($5) fails, and not where the engines differ" >&2
+        exit 2
     fi
+    cp "$here/$2" "$2"
 }
 
-copy
-cd "$work/rust"
-cargo test -q -p plain -p compare -p chirimok >"$work/log" 2>&1 || {
-    cat "$work/log" >&2
-    echo "the tests fail without any break" >&2
-    exit 2
-}
-echo "no break: all tests pass"
+for test in agree_on_histories agree_on_damage; do
+    cargo test --offline -q -p chirimok --test "$test" agree_on >"$work/log" 2>&1 || {
+        cat "$work/log" >&2
+        echo "$test fails without any break" >&2
+        exit 2
+    }
+done
+echo "no break: the tests named below pass"
 
 break_it 1 plain/src/desk.rs 's/filter(|&member| member != 0)/filter(|_| false)/' \
     agree_on_histories agree_on_histories

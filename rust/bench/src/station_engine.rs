@@ -1,20 +1,20 @@
 //! The proved store, through its safe wrapper.
 
-use chirimok::{Desk, Store};
+use std::mem;
+
+use chirimok::{Row, Session, Store, limits};
 
 use crate::engine::{Engine, Lent, PAGE};
 
 pub struct StationEngine {
-    data: Vec<u8>,
-    undo: Vec<u8>,
-    status: Vec<u8>,
-    desk: Desk,
+    store: Store<Vec<u8>>,
 }
 
 impl StationEngine {
-    /// What a call takes: the areas, lent, and the desk.
-    fn lend(&mut self) -> (Store<'_>, &mut Desk) {
-        (Store::new(&mut self.data, &mut self.undo, &mut self.status), &mut self.desk)
+    /// Takes the areas out, to make a store of them anew.
+    fn areas(&mut self) -> [Vec<u8>; 3] {
+        let none = Store::from_kept_words(vec![], vec![], vec![], [0; limits::WORDS]);
+        mem::replace(&mut self.store, none).into_areas()
     }
 }
 
@@ -23,78 +23,69 @@ impl Engine for StationEngine {
 
     fn formatted(pages: usize) -> Self {
         let (data, undo, status) = (vec![0; pages * PAGE], vec![0; pages * PAGE], vec![0; PAGE]);
-        let mut engine = Self { data, undo, status, desk: Desk::new() };
-        let (mut store, desk) = engine.lend();
-        store.format(desk).expect("format");
-        engine
+        Self { store: Store::format(data, undo, status).expect("format") }
     }
 
     fn take(&mut self, lent: &Lent) {
-        self.data.copy_from_slice(&lent.data);
-        self.undo.copy_from_slice(&lent.undo);
-        self.status.copy_from_slice(&lent.status);
-        self.desk = Desk::from_words(lent.desk);
+        let [mut data, mut undo, mut status] = self.areas();
+        data.copy_from_slice(&lent.data);
+        undo.copy_from_slice(&lent.undo);
+        status.copy_from_slice(&lent.status);
+        self.store = Store::from_kept_words(data, undo, status, lent.desk);
     }
 
     fn lent(&self) -> Lent {
-        let Self { data, undo, status, desk } = self;
-        let (data, undo, status) = (data.clone(), undo.clone(), status.clone());
-        Lent { data, undo, status, desk: *desk.words() }
+        let [data, undo, status] =
+            [self.store.data(), self.store.undo(), self.store.status()].map(<[u8]>::to_vec);
+        Lent { data, undo, status, desk: *self.store.desk().words() }
     }
 
     fn open(&mut self) {
-        let (store, desk) = self.lend();
-        store.open(desk).expect("open");
+        let [data, undo, status] = self.areas();
+        self.store = Store::open(data, undo, status).expect("open");
     }
 
     fn seal(&mut self) {
-        let (mut store, desk) = self.lend();
-        store.seal(desk).expect("seal");
+        self.store.seal().expect("seal");
     }
 
     fn begin(&mut self) -> u64 {
-        let (mut store, desk) = self.lend();
-        store.begin(desk).expect("begin")
+        self.store.begin().expect("begin").number()
     }
 
     fn next(&mut self, session: u64) {
-        let (store, desk) = self.lend();
-        store.next(desk, session).expect("next");
+        self.store.next(Session::from_number(session)).expect("next");
     }
 
     fn insert(&mut self, session: u64, body: &[u8]) -> u64 {
-        let (mut store, desk) = self.lend();
-        store.insert(desk, session, body).expect("insert")
+        self.store.insert(Session::from_number(session), body).expect("insert").number()
     }
 
     fn update(&mut self, session: u64, row: u64, body: &[u8]) {
-        let (mut store, desk) = self.lend();
-        store.update(desk, session, row, body).expect("update");
+        let (session, row) = (Session::from_number(session), Row::from_number(row));
+        self.store.update(session, row, body).expect("update");
     }
 
     fn delete(&mut self, session: u64, row: u64) {
-        let (mut store, desk) = self.lend();
-        store.delete(desk, session, row).expect("delete");
+        let (session, row) = (Session::from_number(session), Row::from_number(row));
+        self.store.delete(session, row).expect("delete");
     }
 
     fn read(&mut self, session: u64, row: u64) -> u64 {
-        let (store, desk) = self.lend();
-        let reading = store.read(desk, session, row).expect("read");
+        let (session, row) = (Session::from_number(session), Row::from_number(row));
+        let reading = self.store.read(session, row).expect("read");
         reading.count + u64::from(reading.body[0])
     }
 
     fn commit(&mut self, session: u64) {
-        let (mut store, desk) = self.lend();
-        store.commit(desk, session).expect("commit");
+        self.store.commit(Session::from_number(session)).expect("commit");
     }
 
     fn withdraw(&mut self, session: u64) {
-        let (mut store, desk) = self.lend();
-        store.withdraw(desk, session).expect("withdraw");
+        self.store.withdraw(Session::from_number(session)).expect("withdraw");
     }
 
     fn sweep(&mut self, rows: u64) -> u64 {
-        let (mut store, desk) = self.lend();
-        store.sweep(desk, 0, rows).expect("sweep").removed
+        self.store.sweep(Row::FIRST, rows).expect("sweep").removed
     }
 }

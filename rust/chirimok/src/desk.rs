@@ -1,23 +1,55 @@
 //! The desk as the library takes it.
 
-/// Words in a desk: next, 16 numbers, 16 statements, 16 lists of 15.
-pub(crate) const WORDS: usize = 273;
+use std::fmt;
 
-const SESSIONS: usize = 16;
-const MEMBERS: usize = 15;
+use crate::Session;
+use crate::limits::{MEMBERS, SESSIONS, WORDS};
+
 const NUMBERS: usize = 1;
 const STATEMENTS: usize = NUMBERS + SESSIONS;
 const LISTS: usize = STATEMENTS + SESSIONS;
 
-/// The session record that goes into each call (01, Sessions and sight).
-#[derive(Clone, Debug, PartialEq, Eq)]
+/// The session record that goes into each call (01, Sessions and sight). A [`Store`](crate::Store)
+/// gets its desk from format or open and keeps it beside the areas. It can be looked at there,
+///
+/// ```
+/// # let [mut data, mut undo, mut status] = [[0; 8192]; 3];
+/// # let store = chirimok::Store::format(&mut data, &mut undo, &mut status)?;
+/// let desk: &chirimok::Desk = store.desk();
+/// # Ok::<(), chirimok::Refusal>(())
+/// ```
+///
+/// but there is no new desk, no default one and no copy, which would know nothing of what its store
+/// has handed out:
+///
+/// ```compile_fail,E0599
+/// # let [mut data, mut undo, mut status] = [[0; 8192]; 3];
+/// # let store = chirimok::Store::format(&mut data, &mut undo, &mut status)?;
+/// let desk: &chirimok::Desk = &chirimok::Desk::new();
+/// # Ok::<(), chirimok::Refusal>(())
+/// ```
+///
+/// ```compile_fail,E0277
+/// # let [mut data, mut undo, mut status] = [[0; 8192]; 3];
+/// # let store = chirimok::Store::format(&mut data, &mut undo, &mut status)?;
+/// let desk: &chirimok::Desk = &Default::default();
+/// # Ok::<(), chirimok::Refusal>(())
+/// ```
+///
+/// ```compile_fail,E0308
+/// # let [mut data, mut undo, mut status] = [[0; 8192]; 3];
+/// # let store = chirimok::Store::format(&mut data, &mut undo, &mut status)?;
+/// let desk: chirimok::Desk = store.desk().clone();
+/// # Ok::<(), chirimok::Refusal>(())
+/// ```
+#[derive(PartialEq, Eq)]
 pub struct Desk([u32; WORDS]);
 
 /// An open session at the desk.
 #[derive(Clone, Copy, Debug, PartialEq, Eq)]
-pub struct Session<'d> {
+pub struct OpenSession<'d> {
     /// Its number.
-    pub number: u64,
+    pub number: Session,
     /// The statement in which it is.
     pub statement: u32,
     /// The numbers that were open when it began, ascending.
@@ -25,16 +57,12 @@ pub struct Session<'d> {
 }
 
 impl Desk {
-    /// The desk of a store just formatted: no sessions, next number 1.
-    pub const fn new() -> Self {
-        let mut words = [0; WORDS];
-        words[0] = 1;
-        Self(words)
+    /// A desk for format or open to write over. As it is, every word of it breaks a rule.
+    pub(crate) const fn unwritten() -> Self {
+        Self([u32::MAX; WORDS])
     }
 
-    /// A desk from the words that a caller kept. Every call but format and open answers
-    /// [`Refusal::UnsoundDesk`](crate::Refusal::UnsoundDesk) where they break a rule.
-    pub const fn from_words(words: [u32; WORDS]) -> Self {
+    pub(crate) const fn from_words(words: [u32; WORDS]) -> Self {
         Self(words)
     }
 
@@ -47,25 +75,32 @@ impl Desk {
         &mut self.0
     }
 
-    /// The number that the next session gets.
+    /// The number that the next session gets; one more than
+    /// [`LAST_NUMBER`](crate::limits::LAST_NUMBER) where all are handed out.
     pub const fn next(&self) -> u64 {
         self.0[0] as u64
     }
 
     /// The open sessions, ascending by number.
-    pub fn sessions(&self) -> impl Iterator<Item = Session<'_>> {
+    pub fn sessions(&self) -> impl Iterator<Item = OpenSession<'_>> {
         let (numbers, statements) = (&self.0[NUMBERS..STATEMENTS], &self.0[STATEMENTS..LISTS]);
         let lists = self.0[LISTS..].chunks_exact(MEMBERS);
         let places = numbers.iter().zip(statements).zip(lists);
         places.take_while(|((number, _), _)| **number != 0).map(|((&number, &statement), list)| {
             let used = list.iter().position(|&member| member == 0).unwrap_or(MEMBERS);
-            Session { number: number.into(), statement, list: &list[..used] }
+            let number = Session::from_number(number.into());
+            OpenSession { number, statement, list: &list[..used] }
         })
     }
 }
 
-impl Default for Desk {
-    fn default() -> Self {
-        Self::new()
+impl fmt::Debug for Desk {
+    fn fmt(&self, formatter: &mut fmt::Formatter<'_>) -> fmt::Result {
+        let sessions: Vec<_> = self.sessions().collect();
+        formatter
+            .debug_struct("Desk")
+            .field("next", &self.next())
+            .field("sessions", &sessions)
+            .finish()
     }
 }

@@ -4,404 +4,115 @@
 //! Each answers the refusal number, 0 for done. On a refusal the out array is zeros, and areas and
 //! desk are unchanged.
 
-use crate::desk::WORDS;
+use crate::limits::WORDS;
 
 /// The desk's words.
 type Words = [u32; WORDS];
 
-unsafe extern "C" {
-    fn chirimok_format(
-        data: *mut u8,
-        data_length: usize,
-        undo: *mut u8,
-        undo_length: usize,
-        status: *mut u8,
-        status_length: usize,
-        desk: *mut Words,
-    ) -> u32;
+/// Where a body lies, as read reports it: in the data area, or in the undo area.
+pub const IN_DATA: u64 = 1;
+pub const IN_UNDO: u64 = 2;
 
-    fn chirimok_open(
-        data: *const u8,
-        data_length: usize,
-        undo: *const u8,
-        undo_length: usize,
-        status: *const u8,
-        status_length: usize,
-        desk: *mut Words,
-    ) -> u32;
-
-    fn chirimok_seal(
-        data: *mut u8,
-        data_length: usize,
-        undo: *mut u8,
-        undo_length: usize,
-        status: *mut u8,
-        status_length: usize,
-        desk: *const Words,
-    ) -> u32;
-
-    fn chirimok_begin(
-        data: *const u8,
-        data_length: usize,
-        undo: *const u8,
-        undo_length: usize,
-        status: *mut u8,
-        status_length: usize,
-        desk: *mut Words,
-        out: *mut [u64; 1],
-    ) -> u32;
-
-    fn chirimok_next(
-        data: *const u8,
-        data_length: usize,
-        undo: *const u8,
-        undo_length: usize,
-        status: *const u8,
-        status_length: usize,
-        desk: *mut Words,
-        session: u64,
-    ) -> u32;
-
-    fn chirimok_insert(
-        data: *mut u8,
-        data_length: usize,
-        undo: *const u8,
-        undo_length: usize,
-        status: *const u8,
-        status_length: usize,
-        desk: *const Words,
-        session: u64,
-        body: *const u8,
-        body_length: usize,
-        out: *mut [u64; 1],
-    ) -> u32;
-
-    fn chirimok_update(
-        data: *mut u8,
-        data_length: usize,
-        undo: *mut u8,
-        undo_length: usize,
-        status: *const u8,
-        status_length: usize,
-        desk: *const Words,
-        session: u64,
-        row: u64,
-        body: *const u8,
-        body_length: usize,
-    ) -> u32;
-
-    fn chirimok_delete(
-        data: *mut u8,
-        data_length: usize,
-        undo: *const u8,
-        undo_length: usize,
-        status: *const u8,
-        status_length: usize,
-        desk: *const Words,
-        session: u64,
-        row: u64,
-    ) -> u32;
-
-    fn chirimok_read(
-        data: *const u8,
-        data_length: usize,
-        undo: *const u8,
-        undo_length: usize,
-        status: *const u8,
-        status_length: usize,
-        desk: *const Words,
-        session: u64,
-        row: u64,
-        out: *mut [u64; 3],
-    ) -> u32;
-
-    fn chirimok_commit(
-        data: *const u8,
-        data_length: usize,
-        undo: *const u8,
-        undo_length: usize,
-        status: *mut u8,
-        status_length: usize,
-        desk: *mut Words,
-        session: u64,
-    ) -> u32;
-
-    fn chirimok_withdraw(
-        data: *mut u8,
-        data_length: usize,
-        undo: *mut u8,
-        undo_length: usize,
-        status: *mut u8,
-        status_length: usize,
-        desk: *mut Words,
-        session: u64,
-    ) -> u32;
-
-    fn chirimok_sweep(
-        data: *mut u8,
-        data_length: usize,
-        undo: *mut u8,
-        undo_length: usize,
-        status: *const u8,
-        status_length: usize,
-        desk: *const Words,
-        first: u64,
-        quota: u64,
-        out: *mut [u64; 2],
-    ) -> u32;
+/// Bytes that are lent: for writing (`mut`) or for reading (`const`).
+macro_rules! bytes {
+    (mut) => {
+        &mut [u8]
+    };
+    (const) => {
+        &[u8]
+    };
 }
 
-// Each call below is sound for the same reason: every pointer comes from a reference to as many
-// bytes or words as the length or the type says, exclusive where the function writes, and the
-// library keeps none of them.
-
-pub fn format(data: &mut [u8], undo: &mut [u8], status: &mut [u8], desk: &mut Words) -> u32 {
-    // SAFETY: pointers and lengths of exclusive references.
-    unsafe {
-        chirimok_format(
-            data.as_mut_ptr(),
-            data.len(),
-            undo.as_mut_ptr(),
-            undo.len(),
-            status.as_mut_ptr(),
-            status.len(),
-            desk,
-        )
-    }
+/// Where they begin, as the library takes it.
+macro_rules! pointer {
+    (mut) => {
+        *mut u8
+    };
+    (const) => {
+        *const u8
+    };
+    (mut $bytes:ident) => {
+        $bytes.as_mut_ptr()
+    };
+    (const $bytes:ident) => {
+        $bytes.as_ptr()
+    };
 }
 
-pub fn open(data: &[u8], undo: &[u8], status: &[u8], desk: &mut Words) -> u32 {
-    // SAFETY: the areas are only read; the desk is exclusive.
-    unsafe {
-        chirimok_open(
-            data.as_ptr(),
-            data.len(),
-            undo.as_ptr(),
-            undo.len(),
-            status.as_ptr(),
-            status.len(),
-            desk,
-        )
-    }
+/// Declares functions of the library, each with the safe function over it. What is a slice in the
+/// safe one, an area or the body behind the semicolon, the library takes as a pointer and a length.
+macro_rules! functions {
+    ($(
+        $safe:ident = $function:ident(
+            $data:tt data, $undo:tt undo, $status:tt status $(, $name:ident: $type:ty)*
+            $(; const $body:ident $(, $out:ident: $out_type:ty)?)?
+        );
+    )*) => {
+        unsafe extern "C" {
+            $(fn $function(
+                data: pointer!($data),
+                data_length: usize,
+                undo: pointer!($undo),
+                undo_length: usize,
+                status: pointer!($status),
+                status_length: usize,
+                $($name: $type,)*
+                $($body: pointer!(const), body_length: usize, $($out: $out_type)?)?
+            ) -> u32;)*
+        }
+
+        $(pub fn $safe(
+            data: bytes!($data),
+            undo: bytes!($undo),
+            status: bytes!($status),
+            $($name: $type,)*
+            $($body: bytes!(const), $($out: $out_type)?)?
+        ) -> u32 {
+            // SAFETY: every pointer comes from a reference to as many bytes as the length says, or
+            // as many words as the type says, exclusive where the function writes. The library
+            // keeps none of them.
+            unsafe {
+                $function(
+                    pointer!($data data),
+                    data.len(),
+                    pointer!($undo undo),
+                    undo.len(),
+                    pointer!($status status),
+                    status.len(),
+                    $($name,)*
+                    $(pointer!(const $body), $body.len(), $($out)?)?
+                )
+            }
+        })*
+    };
 }
 
-pub fn seal(data: &mut [u8], undo: &mut [u8], status: &mut [u8], desk: &Words) -> u32 {
-    // SAFETY: the areas are exclusive; the desk is only read.
-    unsafe {
-        chirimok_seal(
-            data.as_mut_ptr(),
-            data.len(),
-            undo.as_mut_ptr(),
-            undo.len(),
-            status.as_mut_ptr(),
-            status.len(),
-            desk,
-        )
-    }
-}
-
-pub fn begin(
-    data: &[u8],
-    undo: &[u8],
-    status: &mut [u8],
-    desk: &mut Words,
-    out: &mut [u64; 1],
-) -> u32 {
-    // SAFETY: status, desk and out are exclusive; data and undo are only read.
-    unsafe {
-        chirimok_begin(
-            data.as_ptr(),
-            data.len(),
-            undo.as_ptr(),
-            undo.len(),
-            status.as_mut_ptr(),
-            status.len(),
-            desk,
-            out,
-        )
-    }
-}
-
-pub fn next(data: &[u8], undo: &[u8], status: &[u8], desk: &mut Words, session: u64) -> u32 {
-    // SAFETY: the areas are only read; the desk is exclusive.
-    unsafe {
-        chirimok_next(
-            data.as_ptr(),
-            data.len(),
-            undo.as_ptr(),
-            undo.len(),
-            status.as_ptr(),
-            status.len(),
-            desk,
-            session,
-        )
-    }
-}
-
-pub fn insert(
-    data: &mut [u8],
-    undo: &[u8],
-    status: &[u8],
-    desk: &Words,
-    session: u64,
-    body: &[u8],
-    out: &mut [u64; 1],
-) -> u32 {
-    // SAFETY: data and out are exclusive; the others are only read.
-    unsafe {
-        chirimok_insert(
-            data.as_mut_ptr(),
-            data.len(),
-            undo.as_ptr(),
-            undo.len(),
-            status.as_ptr(),
-            status.len(),
-            desk,
-            session,
-            body.as_ptr(),
-            body.len(),
-            out,
-        )
-    }
-}
-
-pub fn update(
-    data: &mut [u8],
-    undo: &mut [u8],
-    status: &[u8],
-    desk: &Words,
-    session: u64,
-    row: u64,
-    body: &[u8],
-) -> u32 {
-    // SAFETY: data and undo are exclusive; the others are only read.
-    unsafe {
-        chirimok_update(
-            data.as_mut_ptr(),
-            data.len(),
-            undo.as_mut_ptr(),
-            undo.len(),
-            status.as_ptr(),
-            status.len(),
-            desk,
-            session,
-            row,
-            body.as_ptr(),
-            body.len(),
-        )
-    }
-}
-
-pub fn delete(
-    data: &mut [u8],
-    undo: &[u8],
-    status: &[u8],
-    desk: &Words,
-    session: u64,
-    row: u64,
-) -> u32 {
-    // SAFETY: data is exclusive; the others are only read.
-    unsafe {
-        chirimok_delete(
-            data.as_mut_ptr(),
-            data.len(),
-            undo.as_ptr(),
-            undo.len(),
-            status.as_ptr(),
-            status.len(),
-            desk,
-            session,
-            row,
-        )
-    }
-}
-
-pub fn read(
-    data: &[u8],
-    undo: &[u8],
-    status: &[u8],
-    desk: &Words,
-    session: u64,
-    row: u64,
-    out: &mut [u64; 3],
-) -> u32 {
-    // SAFETY: out is exclusive; the others are only read.
-    unsafe {
-        chirimok_read(
-            data.as_ptr(),
-            data.len(),
-            undo.as_ptr(),
-            undo.len(),
-            status.as_ptr(),
-            status.len(),
-            desk,
-            session,
-            row,
-            out,
-        )
-    }
-}
-
-pub fn commit(data: &[u8], undo: &[u8], status: &mut [u8], desk: &mut Words, session: u64) -> u32 {
-    // SAFETY: status and desk are exclusive; data and undo are only read.
-    unsafe {
-        chirimok_commit(
-            data.as_ptr(),
-            data.len(),
-            undo.as_ptr(),
-            undo.len(),
-            status.as_mut_ptr(),
-            status.len(),
-            desk,
-            session,
-        )
-    }
-}
-
-pub fn withdraw(
-    data: &mut [u8],
-    undo: &mut [u8],
-    status: &mut [u8],
-    desk: &mut Words,
-    session: u64,
-) -> u32 {
-    // SAFETY: pointers and lengths of exclusive references.
-    unsafe {
-        chirimok_withdraw(
-            data.as_mut_ptr(),
-            data.len(),
-            undo.as_mut_ptr(),
-            undo.len(),
-            status.as_mut_ptr(),
-            status.len(),
-            desk,
-            session,
-        )
-    }
-}
-
-pub fn sweep(
-    data: &mut [u8],
-    undo: &mut [u8],
-    status: &[u8],
-    desk: &Words,
-    first: u64,
-    quota: u64,
-    out: &mut [u64; 2],
-) -> u32 {
-    // SAFETY: data, undo and out are exclusive; status and desk are only read.
-    unsafe {
-        chirimok_sweep(
-            data.as_mut_ptr(),
-            data.len(),
-            undo.as_mut_ptr(),
-            undo.len(),
-            status.as_ptr(),
-            status.len(),
-            desk,
-            first,
-            quota,
-            out,
-        )
-    }
+functions! {
+    format = chirimok_format(mut data, mut undo, mut status, desk: &mut Words);
+    open = chirimok_open(const data, const undo, const status, desk: &mut Words);
+    seal = chirimok_seal(mut data, mut undo, mut status, desk: &Words);
+    begin = chirimok_begin(
+        const data, const undo, mut status, desk: &mut Words, out: &mut [u64; 1]
+    );
+    next = chirimok_next(const data, const undo, const status, desk: &mut Words, session: u64);
+    insert = chirimok_insert(
+        mut data, const undo, const status, desk: &Words, session: u64;
+        const body, out: &mut [u64; 1]
+    );
+    update = chirimok_update(
+        mut data, mut undo, const status, desk: &Words, session: u64, row: u64; const body
+    );
+    delete = chirimok_delete(
+        mut data, const undo, const status, desk: &Words, session: u64, row: u64
+    );
+    read = chirimok_read(
+        const data, const undo, const status, desk: &Words, session: u64, row: u64,
+        out: &mut [u64; 3]
+    );
+    commit = chirimok_commit(const data, const undo, mut status, desk: &mut Words, session: u64);
+    withdraw = chirimok_withdraw(mut data, mut undo, mut status, desk: &mut Words, session: u64);
+    sweep = chirimok_sweep(
+        mut data, mut undo, const status, desk: &Words, first: u64, quota: u64,
+        out: &mut [u64; 2]
+    );
 }

@@ -1,21 +1,26 @@
 //! Safe Rust over the proved page store of document 01.
 //!
-//! The store keeps nothing: it works on three areas that the caller lends ([`Store`]) and on a
-//! [`Desk`] that holds the open sessions. A refused call says why ([`Refusal`]) and leaves areas
-//! and desk as they were. A reading lies where it was found: [`Store::read`] hands back a part of
-//! the lent area and no copy.
+//! A [`Store`] works on three areas that the caller lends or hands over, and keeps the record of
+//! its open sessions ([`Desk`]) beside them. It comes from [`Store::format`], or from
+//! [`Store::open`] once it was sealed. Who works in it is a [`Session`]; what is written is a
+//! [`Row`] of 32 bytes. A refused call says why ([`Refusal`]) and leaves areas and desk as they
+//! were. A reading lies where it was found: [`Store::read`] hands back a part of the area and no
+//! copy.
 //!
 //! ```
 //! # fn main() -> Result<(), chirimok::Refusal> {
+//! use chirimok::Store;
+//!
 //! let (mut data, mut undo, mut status) = (vec![0; 8192], vec![0; 8192], vec![0; 8192]);
-//! let mut desk = chirimok::Desk::new();
-//! let mut store = chirimok::Store::new(&mut data, &mut undo, &mut status);
-//! store.format(&mut desk)?;
-//! let writer = store.begin(&mut desk)?;
-//! let row = store.insert(&desk, writer, &[7; 32])?;
-//! store.commit(&mut desk, writer)?;
-//! let reader = store.begin(&mut desk)?;
-//! assert_eq!(store.read(&desk, reader, row)?.body, [7; 32]);
+//! let mut store = Store::format(&mut data, &mut undo, &mut status)?;
+//! let writer = store.begin()?;
+//! let row = store.insert(writer, &[7; 32])?;
+//! store.commit(writer)?;
+//! store.seal()?;
+//!
+//! let mut store = Store::open(&mut data, &mut undo, &mut status)?;
+//! let reader = store.begin()?;
+//! assert_eq!(store.read(reader, row)?.body, &[7; 32]);
 //! # Ok(())
 //! # }
 //! ```
@@ -27,9 +32,12 @@ mod desk;
 #[doc(hidden)]
 #[allow(unsafe_code)]
 pub mod ffi;
+pub mod limits;
+mod numbers;
 mod refusal;
 mod store;
 
-pub use desk::{Desk, Session};
+pub use desk::{Desk, OpenSession};
+pub use numbers::{Row, Session};
 pub use refusal::Refusal;
 pub use store::{Reading, Store, Swept};

@@ -3,39 +3,60 @@
 use std::error::Error;
 use std::fmt;
 
-/// Why a call did nothing, with the numbers of 01, "When the desk says no".
+/// Why a call did nothing, with the numbers of 01, "When the desk says no", and what a station does
+/// about it.
 #[derive(Clone, Copy, Debug, PartialEq, Eq)]
+#[non_exhaustive]
 #[repr(u32)]
 pub enum Refusal {
-    /// An area's length isn't allowed.
+    /// An area's length isn't allowed. Lend whole pages of 8,192 bytes: 1 to 64 of data, 1 to 64 of
+    /// undo, exactly 1 of status.
     AreaLength = 1,
-    /// The desk is unsound.
+    /// The desk is unsound: words were kept that are not a desk's. Go on with those of the last
+    /// accepted call; where they are lost, open the areas as they were sealed last.
     UnsoundDesk = 2,
-    /// Open found a wrong header field or a number that isn't closed.
+    /// Open found a wrong header field or a number that isn't closed: the areas hold no store, are
+    /// damaged, or were not sealed after the last write. Open another copy that was sealed; format
+    /// begins an empty store.
     UnsoundStore = 3,
-    /// The session is not open.
+    /// The session is not open: it is closed, or was never begun here. Begin one.
     SessionNotOpen = 4,
-    /// The row is outside the data area, or the body isn't 32 bytes long.
+    /// The row is outside the data area, or the body isn't 32 bytes long. Mend the argument: a
+    /// store has 127 rows for each page of data.
     RowOrBody = 5,
-    /// A broken chain was met.
+    /// A broken chain was met: the areas are damaged, or words were kept that are not the last. A
+    /// store that the calls alone wrote since its format never answers it. Go back to a copy that
+    /// was sealed; rows whose chains are whole can still be read.
     BrokenChain = 6,
-    /// No version of the row is there for the session.
+    /// No version of the row is there for the session: the row is empty or deleted, or was written
+    /// by someone whom the session does not see. What it inserted itself in this statement is there
+    /// after [`next`](crate::Store::next).
     NoVersion = 7,
-    /// The session itself wrote the row, in this statement or by deleting it.
+    /// The session itself wrote the row in this statement, or deleted it. Call
+    /// [`next`](crate::Store::next) first; a row that it deleted is then gone.
     OwnWrite = 8,
-    /// Another writer of the row is not committed.
+    /// Another writer of the row is not committed. Try again when that session is closed: after its
+    /// withdrawal the row can be written, after its commit the answer is
+    /// [`WriterCommitted`](Self::WriterCommitted).
     WriterInWork = 9,
-    /// A writer of the row whom the session does not see is committed.
+    /// A writer of the row whom the session does not see is committed. This session cannot write
+    /// the row any more: withdraw it and begin another, or go on with other rows.
     WriterCommitted = 10,
-    /// No empty slot, or no free undo entry.
+    /// No empty slot (insert), or no free undo entry (update). Sweep all rows and try again; if
+    /// nothing went, end the oldest session and sweep again. With no session open, a sweep frees
+    /// every undo entry; slots are then held by rows alone: delete some and sweep, or move to a
+    /// larger store.
     NoRoom = 11,
-    /// Sixteen sessions are open.
+    /// Sixteen sessions are open. Commit or withdraw one.
     SessionsFull = 12,
-    /// All numbers are handed out.
+    /// All 32,575 numbers are handed out. They never return: format a store anew. What shall be
+    /// carried over is read by a session that is open, so keep the last number for that.
     NumbersUsedUp = 13,
-    /// The session is in its last statement.
+    /// The session is in its last statement, 65,535. It can still read, write, commit and withdraw;
+    /// go on in another.
     StatementsUsedUp = 14,
-    /// Seal found an open session.
+    /// Seal found an open session. Commit or withdraw the sessions at the
+    /// [desk](crate::Store::desk), and seal again.
     SessionOpen = 15,
 }
 
@@ -68,20 +89,22 @@ impl Refusal {
         Self::ALL.into_iter().find(|refusal| refusal.number() == number)
     }
 
-    /// What the refusal says, in words.
-    const fn message(self) -> &'static str {
+    /// What the refusal says, in the words of `chirimok_refusal`.
+    pub const fn message(self) -> &'static str {
         match self {
             Self::AreaLength => "an area's length isn't allowed",
             Self::UnsoundDesk => "the desk is unsound",
-            Self::UnsoundStore => "a header field is wrong or a number isn't closed",
+            Self::UnsoundStore => "a header field is wrong, or a number isn't closed",
             Self::SessionNotOpen => "the session is not open",
             Self::RowOrBody => "no such row, or the body isn't 32 bytes long",
             Self::BrokenChain => "the row's chain is broken",
-            Self::NoVersion => "no version of the row is there",
-            Self::OwnWrite => "the session wrote the row itself",
+            Self::NoVersion => "no version of the row is there for the session",
+            Self::OwnWrite => "the session itself wrote or deleted the row",
             Self::WriterInWork => "another writer of the row is not committed",
-            Self::WriterCommitted => "an unseen writer of the row is committed",
-            Self::NoRoom => "no empty slot or no free undo entry",
+            Self::WriterCommitted => {
+                "a writer of the row whom the session does not see is committed"
+            }
+            Self::NoRoom => "no empty slot, or no free undo entry",
             Self::SessionsFull => "sixteen sessions are open",
             Self::NumbersUsedUp => "all numbers are handed out",
             Self::StatementsUsedUp => "the session is in its last statement",

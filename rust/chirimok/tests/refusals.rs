@@ -1,6 +1,7 @@
 //! The wrapper's own types: refusal numbers and the desk's accessors.
 
-use chirimok::{Desk, Refusal};
+use chirimok::limits::{PAGE, WORDS};
+use chirimok::{Refusal, Session, Store};
 
 #[test]
 fn refusals_have_the_numbers_of_document_01() {
@@ -12,19 +13,56 @@ fn refusals_have_the_numbers_of_document_01() {
 }
 
 #[test]
-fn a_new_desk_has_no_sessions() {
-    let desk = Desk::new();
-    assert_eq!(desk.next(), 1);
-    assert_eq!(desk.sessions().count(), 0);
+fn a_formatted_store_has_no_sessions() {
+    let store = Store::format(vec![1; PAGE], vec![1; PAGE], vec![1; PAGE]).expect("format");
+    assert_eq!(store.desk().next(), 1);
+    assert_eq!(store.desk().sessions().count(), 0);
 }
 
 #[test]
 fn a_desk_shows_its_sessions() {
-    let mut words = [0; 273];
+    let mut words = [0; WORDS];
     words[..3].copy_from_slice(&[9, 3, 5]);
     words[17..19].copy_from_slice(&[2, 7]);
     words[33 + 15] = 3;
-    let desk = Desk::from_words(words);
-    let sessions: Vec<_> = desk.sessions().map(|s| (s.number, s.statement, s.list)).collect();
-    assert_eq!(sessions, [(3, 2, &[][..]), (5, 7, &[3][..])]);
+    let store = Store::from_kept_words(vec![], vec![], vec![], words);
+    let sessions: Vec<_> =
+        store.desk().sessions().map(|open| (open.number, open.statement, open.list)).collect();
+    let session = Session::from_number;
+    assert_eq!(sessions, [(session(3), 2, &[][..]), (session(5), 7, &[3][..])]);
+}
+
+/// What goes wrong with words that are not the last, as [`Store::from_kept_words`] warns: every call
+/// is accepted, and a row is lost.
+#[test]
+fn words_from_before_a_commit_lose_its_rows() {
+    let [mut data, mut undo, mut status] = [[0; PAGE]; 3];
+    let mut store = Store::format(&mut data, &mut undo, &mut status).expect("format");
+    let writer = store.begin().expect("begin");
+    let row = store.insert(writer, &[7; 32]).expect("insert");
+    let words = *store.desk().words();
+    store.commit(writer).expect("commit");
+
+    let mut store = Store::from_kept_words(&mut data, &mut undo, &mut status, words);
+    store.withdraw(writer).expect("withdraw");
+    let reader = store.begin().expect("begin");
+    assert_eq!(store.read(reader, row), Err(Refusal::NoVersion));
+}
+
+/// A sealed store that is opened hands out the numbers behind those of its rows.
+#[test]
+fn an_opened_store_keeps_its_rows() {
+    let [mut data, mut undo, mut status] = [[0; PAGE]; 3];
+    let mut store = Store::format(&mut data, &mut undo, &mut status).expect("format");
+    let writer = store.begin().expect("begin");
+    let row = store.insert(writer, &[7; 32]).expect("insert");
+    store.commit(writer).expect("commit");
+    store.seal().expect("seal");
+
+    let mut store = Store::open(&mut data, &mut undo, &mut status).expect("open");
+    let other = store.begin().expect("begin");
+    assert!(writer < other);
+    store.withdraw(other).expect("withdraw");
+    let reader = store.begin().expect("begin");
+    assert_eq!(store.read(reader, row).expect("read").body, &[7; 32]);
 }

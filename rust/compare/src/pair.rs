@@ -6,12 +6,11 @@ use crate::{Answer, Call, Engine, Store};
 pub struct Pair<'e> {
     engines: [&'e dyn Engine; 2],
     stores: [Store; 2],
-    before: Store,
 }
 
 impl<'e> Pair<'e> {
     pub fn new(engines: [&'e dyn Engine; 2], store: Store) -> Self {
-        Self { engines, stores: [store.clone(), store.clone()], before: store }
+        Self { engines, stores: [store.clone(), store] }
     }
 
     /// The store, the same for both engines.
@@ -29,25 +28,25 @@ impl<'e> Pair<'e> {
     pub fn must_agree(&mut self, call: &Call) -> Answer {
         let [one, two] = self.engines;
         let [store_one, store_two] = &mut self.stores;
-        self.before.clone_from(store_one);
         let answer = one.call(store_one, call);
+        if answer.code != 0 {
+            // The other engine's store is still as both were before.
+            check_refusal(store_two, store_one, call, answer);
+        }
         let other = two.call(store_two, call);
         assert_eq!(answer, other, "{} and {}, after {call:?}", one.name(), two.name());
         if let Some(difference) = store_one.difference(store_two) {
             panic!("{} and {} leave, after {call:?}, {difference}", one.name(), two.name());
         }
-        if answer.code != 0 {
-            self.check_refusal(call, answer);
-        }
         answer
     }
+}
 
-    /// The numbers are those that the engine reported: an engine behind an adapter hands on what
-    /// stands in its out array, refused or not.
-    fn check_refusal(&self, call: &Call, answer: Answer) {
-        assert_eq!(answer.values, [0; 3], "a refused {call:?} reports numbers");
-        if let Some(difference) = self.before.difference(self.store()) {
-            panic!("{call:?} is refused with {} and changes {difference}", answer.code);
-        }
+/// The numbers are those that the engine reported: an engine behind an adapter hands on what stands
+/// in its out array, refused or not.
+fn check_refusal(before: &Store, after: &Store, call: &Call, answer: Answer) {
+    assert_eq!(answer.values, [0; 3], "a refused {call:?} reports numbers");
+    if let Some(difference) = before.difference(after) {
+        panic!("{call:?} is refused with {} and changes {difference}", answer.code);
     }
 }

@@ -45,12 +45,12 @@ impl Random {
     }
 }
 
-/// Runs a driver's rounds, or the one that `CHIRIMOK_SEED` names, and prints the seed of a round
-/// that fails.
+/// Runs a driver's rounds, at most as many as `CHIRIMOK_ROUNDS` says, or the one that
+/// `CHIRIMOK_SEED` names, and prints the seed of a round that fails.
 pub fn for_each_seed(rounds: u64, mut round: impl FnMut(u64)) {
     let seeds = match named_seed() {
         Some(seed) => seed..seed + 1,
-        None => 0..rounds,
+        None => 0..named("CHIRIMOK_ROUNDS").map_or(rounds, |most| most.min(rounds)),
     };
     for seed in seeds {
         let _printed = PrintedOnPanic(seed);
@@ -60,8 +60,13 @@ pub fn for_each_seed(rounds: u64, mut round: impl FnMut(u64)) {
 
 /// The seed to repeat. A single round need not show all that a driver's rounds show together.
 pub fn named_seed() -> Option<u64> {
-    let seed = std::env::var("CHIRIMOK_SEED").ok()?;
-    Some(seed.parse().expect("CHIRIMOK_SEED is a decimal number"))
+    named("CHIRIMOK_SEED")
+}
+
+/// The number that a variable of the environment names.
+fn named(variable: &str) -> Option<u64> {
+    let number = std::env::var(variable).ok()?;
+    Some(number.parse().unwrap_or_else(|_| panic!("{variable} is a decimal number")))
 }
 
 struct PrintedOnPanic(u64);

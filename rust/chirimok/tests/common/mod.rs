@@ -2,7 +2,7 @@
 
 mod reported;
 
-use chirimok::{Desk, Refusal, Store};
+use chirimok::{Refusal, Row, Session, Store};
 use compare::{Answer, Call, Engine};
 
 pub struct Station;
@@ -13,15 +13,14 @@ impl Engine for Station {
     }
 
     fn call(&self, lent: &mut compare::Store, call: &Call) -> Answer {
-        let mut desk = Desk::from_words(lent.desk);
-        let mut store = Store::new(&mut lent.data, &mut lent.undo, &mut lent.status);
-        let answer = station_call(&mut store, &mut desk, call);
-        // The desk is taken back after a refusal too: the library must not have changed it.
-        lent.desk = *desk.words();
+        let answer = match call {
+            Call::Format | Call::Open => start(lent, call),
+            _ => go_on(lent, call),
+        };
         match answer {
             Ok(values) => Answer::done(values),
             Err(refusal) => {
-                // The numbers are those that the library wrote, and not zeros of the wrapper's.
+                // Numbers and desk are those that the library wrote or left, and not the wrapper's.
                 let (code, values) = reported::by_library(lent, call, refusal.number());
                 assert_eq!(code, refusal.number(), "{call:?}, refused once more");
                 Answer { code, values }
@@ -30,34 +29,58 @@ impl Engine for Station {
     }
 }
 
-fn station_call(store: &mut Store<'_>, desk: &mut Desk, call: &Call) -> Result<[u64; 3], Refusal> {
+/// Format or open, which make the desk themselves.
+fn start(lent: &mut compare::Store, call: &Call) -> Result<[u64; 3], Refusal> {
+    let compare::Store { data, undo, status, desk } = lent;
+    let store = match call {
+        Call::Format => Store::format(data, undo, status),
+        _ => Store::open(data, undo, status),
+    };
+    *desk = *store?.desk().words();
+    Ok([0; 3])
+}
+
+/// Any other call, with the desk that is lent.
+fn go_on(lent: &mut compare::Store, call: &Call) -> Result<[u64; 3], Refusal> {
+    let compare::Store { data, undo, status, desk } = lent;
+    let mut store = Store::from_kept_words(data, undo, status, *desk);
+    let answer = station_call(&mut store, call);
+    // The desk is taken back after a refusal too: the library must not have changed it.
+    *desk = *store.desk().words();
+    answer
+}
+
+fn station_call(store: &mut Store<&mut Vec<u8>>, call: &Call) -> Result<[u64; 3], Refusal> {
     let done = |()| [0; 3];
+    let (session, row) = (Session::from_number, Row::from_number);
     match *call {
-        Call::Format => store.format(desk).map(done),
-        Call::Open => store.open(desk).map(done),
-        Call::Seal => store.seal(desk).map(done),
-        Call::Begin => store.begin(desk).map(|number| [number, 0, 0]),
-        Call::Next { session } => store.next(desk, session).map(done),
-        Call::Insert { session, ref body } => {
-            store.insert(desk, session, body).map(|row| [row, 0, 0])
+        Call::Format | Call::Open => unreachable!("a store is there already"),
+        Call::Seal => store.seal().map(done),
+        Call::Begin => store.begin().map(|begun| [begun.number(), 0, 0]),
+        Call::Next { session: s } => store.next(session(s)).map(done),
+        Call::Insert { session: s, ref body } => {
+            store.insert(session(s), body).map(|row| [row.number(), 0, 0])
         }
-        Call::Update { session, row, ref body } => store.update(desk, session, row, body).map(done),
-        Call::Delete { session, row } => store.delete(desk, session, row).map(done),
-        Call::Read { session, row } => {
-            let reading = store.read(desk, session, row)?;
+        Call::Update { session: s, row: r, ref body } => {
+            store.update(session(s), row(r), body).map(done)
+        }
+        Call::Delete { session: s, row: r } => store.delete(session(s), row(r)).map(done),
+        Call::Read { session: s, row: r } => {
+            let reading = store.read(session(s), row(r))?;
             let (area, offset) = place_of(store, reading.body);
             Ok([reading.count, area, offset])
         }
-        Call::Commit { session } => store.commit(desk, session).map(done),
-        Call::Withdraw { session } => store.withdraw(desk, session).map(done),
+        Call::Commit { session: s } => store.commit(session(s)).map(done),
+        Call::Withdraw { session: s } => store.withdraw(session(s)).map(done),
         Call::Sweep { first, quota } => {
-            store.sweep(desk, first, quota).map(|swept| [swept.next_row, swept.removed, 0])
+            let swept = store.sweep(row(first), quota)?;
+            Ok([swept.next_row.number(), swept.removed, 0])
         }
     }
 }
 
 /// Where a body lies: 1 for data or 2 for undo, and the byte offset there. A copy lies in neither.
-fn place_of(store: &Store<'_>, body: &[u8]) -> (u64, u64) {
+fn place_of(store: &Store<&mut Vec<u8>>, body: &[u8]) -> (u64, u64) {
     let start = body.as_ptr().addr();
     let offset_in = |area: &[u8]| {
         let offset = start.checked_sub(area.as_ptr().addr())?;

@@ -1,6 +1,7 @@
-//! What the library itself writes into the out array of a refused call: "Each number reported by a
-//! refused call is 0." The wrapper hands no numbers back then, so the four functions that have an
-//! out array are called here without it, with an array that is full beforehand.
+//! What the library itself does in a refused call. "Each number reported by a refused call is 0":
+//! the wrapper hands no numbers back then, so the four functions that have an out array are called
+//! here without it, with an array that is full beforehand. And format and open must leave the desk
+//! that is lent, where the wrapper has none to lend.
 
 use chirimok::ffi;
 use compare::{Call, Store};
@@ -13,6 +14,8 @@ const FULL: u64 = u64::MAX;
 pub fn by_library(store: &mut Store, call: &Call, number: u32) -> (u32, [u64; 3]) {
     let Store { data, undo, status, desk } = store;
     match call {
+        Call::Format => (ffi::format(data, undo, status, desk), [0; 3]),
+        Call::Open => (ffi::open(data, undo, status, desk), [0; 3]),
         Call::Begin => {
             let mut out = [FULL];
             let number = ffi::begin(data, undo, status, desk, &mut out);
