@@ -1,5 +1,5 @@
--- A text fed to the end: what its turns say in all is the output of what they read in all. What `turn` and `answer` ensure says of a turn which piece
--- it read, how many runs it made and what it left; that a turn's answers are written in their order, and that the pieces are the file's, is not said here.
+-- A text fed to the end: what its rounds say in all is the output of what they read in all. What `round` and `serve` ensure says of a round which piece
+-- it read, how many runs it made and what it left; that a round's answers are written in their order, and that the pieces are the file's, is not said here.
 -- Assumes nothing.
 use Prim.Native.Nat.{ℕ, zero, suc, _≤_}
 use mathlib.Core.Path.{_≡_, refl, sym, ap, _∙_}
@@ -9,7 +9,7 @@ use lib.ListN.{drop}
 use Rattle.reply.specs.Reply.{longest as longestAnswer}
 use Rattle.script.specs.Script.{output}
 use Rattle.script.proofs.Promises.{run-carries, run-ends, run-done}
-use Rattle.feeding.specs.Feeding.{Stand, stand, runOf, after, said, afterTurn, saidIn, readAll, saidAll, WholeOutput}
+use Rattle.feeding.specs.Feeding.{Stand, stand, runOf, after, said, afterRound, saidIn, readAll, saidAll, WholeOutput}
 
 -- ---- some runs of a text, and more behind it
 
@@ -43,7 +43,7 @@ runs-all room s n roomy none =
     ∙ ap (λ (l : List ℕ). said true room s (suc n) ++ l) (run-done (after true room s n .on) (after true room s n .left) room roomy none)
     ∙ append-nil (said true room s (suc n))
 
--- ---- turn by turn
+-- ---- round by round
 
 pub whole-output : WholeOutput
 unfolding readAll saidAll
@@ -55,7 +55,7 @@ whole-output room k kept (p ∷ []) roomy (none, (n, is, last)) =
     ∙ sym (runs-all room (stand k (kept ++ p .read)) n roomy last)
     ∙ ap (λ (l : List ℕ). output k (kept ++ l)) (sym (append-nil (p .read)))
 whole-output room k kept (p ∷ p₁ ∷ ps) roomy (some, end) =
-    ap (λ (l : List ℕ). saidIn room k kept p ++ l) (whole-output room (afterTurn room k kept p .on) (afterTurn room k kept p .left) (p₁ ∷ ps) roomy end)
+    ap (λ (l : List ℕ). saidIn room k kept p ++ l) (whole-output room (afterRound room k kept p .on) (afterRound room k kept p .left) (p₁ ∷ ps) roomy end)
     ∙ ap (λ (b : Bool). said b room (stand k (kept ++ p .read)) (p .runs) ++ output (after b room (stand k (kept ++ p .read)) (p .runs) .on) (after b room (stand k (kept ++ p .read)) (p .runs) .left ++ readAll (p₁ ∷ ps))) some
     ∙ sym (runs-carry room (stand k (kept ++ p .read)) (readAll (p₁ ∷ ps)) (p .runs))
     ∙ ap (output k) (append-assoc kept (p .read) (readAll (p₁ ∷ ps)))

@@ -10,7 +10,7 @@ use lib.Dec.{eqb}
 use Rattle.io.specs.Counts.{clamped}
 use Rattle.kind.specs.Areas.{Areas}
 use Rattle.reply.specs.Reply.{longest as longestAnswer}
-use Rattle.script.specs.Script.{Carried, carried, output, Run, runRule}
+use Rattle.script.specs.Script.{Carried, carried, output, Portion, runRule}
 use Rattle.feeding.specs.declared.Filled.{Filled}
 use Rattle.feeding.specs.declared.Fed.{Fed}
 
@@ -41,7 +41,7 @@ abbrev pub stand : Carried → List ℕ → Stand
 stand k text = record { on = k; left = text }
 
 -- one run of what is left
-abbrev pub runOf : Bool → ℕ → Stand → Run
+abbrev pub runOf : Bool → ℕ → Stand → Portion
 runOf last room s = runRule (s .on) (s .left) last room
 
 -- so many runs, each from where the one before it ended
@@ -54,11 +54,11 @@ unfoldable pub said : Bool → ℕ → Stand → ℕ → List ℕ
 said last room s zero = []
 said last room s (suc n) = said last room s n ++ runOf last room (after last room s n) .said
 
--- what answering a text leaves: some runs of it. Where all their answers were written, the last of them took nothing; then more text is read,
+-- what serving a text leaves: some runs of it. Where all their answers were written, the last of them took nothing; then more text is read,
 -- unless no more comes
-pub record Answers (last : Bool) (room : ℕ) (s : Stand) (r : Fed) (left : Areas) : Type 0 where
+pub record Serves (last : Bool) (room : ℕ) (s : Stand) (r : Fed) (left : Areas) : Type 0 where
   pub runs : ℕ
-  pub carries : carried (r .station) left ≡ after last room s runs .on
+  pub carries : carried (r .footing) left ≡ after last room s runs .on
   pub keeps : r .kept ≡ length (after last room s runs .left)
   pub written : Bool
   pub more : r .more ≡ (written && not last)
@@ -67,34 +67,34 @@ pub record Answers (last : Bool) (room : ℕ) (s : Stand) (r : Fed) (left : Area
 abbrev pub isNone : List ℕ → Bool
 isNone l = eqb (length l) 0
 
--- what a turn leaves: some piece was read, behind what was kept; what is left of both stands at the front
-pub record Turns (k : Carried) (kept : ℕ) (before : List ℕ) (room : ℕ) (r : Fed) (left : Areas) (behind : List ℕ) : Type 0 where
+-- what a round leaves: some piece was read, behind what was kept; what is left of both stands at the front
+pub record Rounds (k : Carried) (kept : ℕ) (before : List ℕ) (room : ℕ) (r : Fed) (left : Areas) (behind : List ℕ) : Type 0 where
   pub piece : List ℕ
-  pub answers : Answers (isNone piece) room (stand k (take kept before ++ piece)) r left
+  pub answers : Serves (isNone piece) room (stand k (take kept before ++ piece)) r left
   pub keeps : take (r .kept) behind ≡ after (isNone piece) room (stand k (take kept before ++ piece)) (answers .runs) .left
 
 -- ---- a text in pieces
 
--- one turn: the piece that was read, and how many runs answered it
+-- one round: the piece that was read, and how many runs answered it
 pub record Piece : Type 0 where
   pub read : List ℕ
   pub runs : ℕ
 
--- how it stands after a turn, and what the turn said: the piece is read behind what was kept
-abbrev pub afterTurn : ℕ → Carried → List ℕ → Piece → Stand
-afterTurn room k kept p = after (isNone (p .read)) room (stand k (kept ++ p .read)) (p .runs)
+-- how it stands after a round, and what the round said: the piece is read behind what was kept
+abbrev pub afterRound : ℕ → Carried → List ℕ → Piece → Stand
+afterRound room k kept p = after (isNone (p .read)) room (stand k (kept ++ p .read)) (p .runs)
 
 abbrev pub saidIn : ℕ → Carried → List ℕ → Piece → List ℕ
 saidIn room k kept p = said (isNone (p .read)) room (stand k (kept ++ p .read)) (p .runs)
 
--- what was read in all, and what was said in all: each turn goes on from what the one before it left
+-- what was read in all, and what was said in all: each round goes on from what the one before it left
 unfoldable pub readAll : List Piece → List ℕ
 readAll [] = []
 readAll (p ∷ ps) = p .read ++ readAll ps
 
 unfoldable pub saidAll : ℕ → Carried → List ℕ → List Piece → List ℕ
 saidAll room k kept [] = []
-saidAll room k kept (p ∷ ps) = saidIn room k kept p ++ saidAll room (afterTurn room k kept p .on) (afterTurn room k kept p .left) ps
+saidAll room k kept (p ∷ ps) = saidIn room k kept p ++ saidAll room (afterRound room k kept p .on) (afterRound room k kept p .left) ps
 
 -- to the end: the last piece is none, and the last run of it took nothing; the others are some
 abbrev pub ToTheEnd : ℕ → Carried → List ℕ → List Piece → Type 0
@@ -103,7 +103,7 @@ ToTheEnd room k kept (p ∷ []) =
     (isNone (p .read) ≡ true)
     × ((n : ℕ) × (p .runs ≡ suc n) × (runOf true room (after true room (stand k (kept ++ p .read)) n) .taken ≡ 0))
 ToTheEnd room k kept (p ∷ p₁ ∷ ps) =
-    (isNone (p .read) ≡ false) × ToTheEnd room (afterTurn room k kept p .on) (afterTurn room k kept p .left) (p₁ ∷ ps)
+    (isNone (p .read) ≡ false) × ToTheEnd room (afterRound room k kept p .on) (afterRound room k kept p .left) (p₁ ∷ ps)
 
 -- what is said in all is the output of what was read in all, whatever its pieces: "left of the arrow the input, right of it the whole output"
 abbrev pub WholeOutput : Type 0

@@ -1,6 +1,6 @@
 // Feeds a script from one open file to the store, and its answers to another, as they come ("01, The script and one whole run"). It holds no
 // rule: which call a line is, what it does and what it answers is `script`'s.
-use script::Station;
+use script::Footing;
 ghost use mathlib.Core.Path.{_≡_};
 ghost use mathlib.Core.Bool.{true};
 ghost use mathlib.Core.List.{_++_};
@@ -10,12 +10,12 @@ ghost use Rattle.kind.specs.Areas.{areas};
 ghost use Rattle.line.specs.Line.{longest as longestLine};
 ghost use Rattle.reply.specs.Reply.{longest as longestAnswer};
 ghost use Rattle.script.specs.Script.{carried};
-ghost use Rattle.feeding.specs.Feeding.{filledBy, Fills, stand, Answers, Turns};
+ghost use Rattle.feeding.specs.Feeding.{filledBy, Fills, stand, Serves, Rounds};
 
-// What is carried from one reading to the next: the station, how much text that was not taken stands at the front of the buffer, and
+// What is carried from one reading to the next: the script's footing, how much text that was not taken stands at the front of the buffer, and
 // whether to go on.
 struct Fed {
-    station: Station,
+    footing: Footing,
     kept: usize,
     more: bool,
 }
@@ -49,38 +49,38 @@ fn say(answers: &[u8], output: i32) -> bool {
 }
 
 // Answers every line of a text that is whole, and writes each answer. What comes back as kept was not taken.
-fn answer(
+fn serve(
     data: &mut [u8],
     undo: &mut [u8],
     status: &mut [u8],
-    station: Station,
+    footing: Footing,
     text: &[u8],
     last: bool,
     out: &mut [u8],
     output: i32,
 ) -> Fed
     requires { ⌜ longestAnswer ≤ length (now out) ⌝ }
-    ensures { λ r. ⌜ Answers last (length (now (out .entry))) (stand (carried station (areas (now («data» .entry)) (now (undo .entry)) (now (status .entry)))) (now (text .entry))) r (areas (now («data» .exit)) (now (undo .exit)) (now (status .exit))) ⌝ }
+    ensures { λ r. ⌜ Serves last (length (now (out .entry))) (stand (carried footing (areas (now («data» .entry)) (now (undo .entry)) (now (status .entry)))) (now (text .entry))) r (areas (now («data» .exit)) (now (undo .exit)) (now (status .exit))) ⌝ }
 {
-    let mut s = station;
+    let mut s = footing;
     let mut at = 0;
     while at <= text.len() {
         let r = script::run(data, undo, status, s, &text[at..], last, out);
-        s = r.station;
+        s = r.footing;
         let made = r.made;
         let taken = r.taken;
         let said = say(&out[..made], output);
         at += taken;
         if !said | (taken == 0) {
             return Fed {
-                station: s,
+                footing: s,
                 kept: text.len() - at,
                 more: said & !last,
             };
         }
     }
     Fed {
-        station: s,
+        footing: s,
         kept: 0,
         more: !last,
     }
@@ -116,11 +116,11 @@ fn fill(text: &mut [u8], kept: usize, input: i32) -> Filled
 }
 
 // Reads once, and answers what is there.
-fn turn(
+fn round(
     data: &mut [u8],
     undo: &mut [u8],
     status: &mut [u8],
-    station: Station,
+    footing: Footing,
     text: &mut [u8],
     kept: usize,
     out: &mut [u8],
@@ -128,24 +128,24 @@ fn turn(
     output: i32,
 ) -> Fed
     requires { ⌜ (kept < length (now text)) × (longestLine < length (now text)) × (longestAnswer ≤ length (now out)) ⌝ }
-    ensures { λ r. ⌜ Turns (carried station (areas (now («data» .entry)) (now (undo .entry)) (now (status .entry)))) kept (now (text .entry)) (length (now (out .entry))) r (areas (now («data» .exit)) (now (undo .exit)) (now (status .exit))) (now (text .exit)) ⌝ }
+    ensures { λ r. ⌜ Rounds (carried footing (areas (now («data» .entry)) (now (undo .entry)) (now (status .entry)))) kept (now (text .entry)) (length (now (out .entry))) r (areas (now («data» .exit)) (now (undo .exit)) (now (status .exit))) (now (text .exit)) ⌝ }
     ensures { λ r. ⌜ (r .more ≡ true → r .kept ≤ longestLine) ⌝ }
 {
     let filled = fill(text, kept, input);
     if !filled.good {
         os::fail(b"chirimok: the script");
         return Fed {
-            station,
+            footing,
             kept,
             more: false,
         };
     }
     let end = filled.end;
-    let f = answer(
+    let f = serve(
         data,
         undo,
         status,
-        station,
+        footing,
         &text[..end],
         filled.last,
         out,
@@ -163,11 +163,11 @@ pub fn feed(input: i32, output: i32) {
     let mut status = [0u8; 8192];
     let mut text = io::large_buffer();
     let mut out = io::large_buffer();
-    let mut s = Station::fresh();
+    let mut s = Footing::fresh();
     let mut kept = 0;
     let mut left = u64::MAX;
     while left > 0 {
-        let f = turn(
+        let f = round(
             &mut data,
             &mut undo,
             &mut status,
@@ -181,7 +181,7 @@ pub fn feed(input: i32, output: i32) {
         if !f.more {
             return;
         }
-        s = f.station;
+        s = f.footing;
         kept = f.kept;
         left -= 1;
     }

@@ -17,7 +17,7 @@ use Rattle.chain.specs.Walk.{walkRule, bodyOf}
 use Rattle.seeking.specs.Seeking.{noRow, isBroken, breaks, isAbsent, misses}
 use Rattle.rows.specs.Rows.{viewIn, readRefusal, readRule, seenBy}
 use Rattle.machine.specs.Table.{Body}
-use Rattle.machine.specs.Lines.{Answer, refused, done, read as Read}
+use Rattle.machine.specs.Lines.{Verdict, refused, done, read as Read}
 use Rattle.machine.specs.Machine.{lookedAt, knows, reads}
 use Rattle.seen.specs.Seen.{rowOf}
 use Rattle.seen.proofs.Walked.{Says}
@@ -28,7 +28,7 @@ use Rattle.history.proofs.Worlds.{seen, Good}
 use Rattle.history.proofs.Writes.{view-few}
 
 -- what is read, and the versions looked at, as an answer
-abbrev pub Reads : Option Body → ℕ → Answer → Type 0
+abbrev pub Reads : Option Body → ℕ → Verdict → Type 0
 Reads none k a = a ≡ refused 7
 Reads (some b) k a = a ≡ done k 0 b
 
@@ -46,7 +46,7 @@ module _ (w : World) (g : Good w) (x r : ℕ) where
   v = viewIn (w .desk) x
 
   -- a rule's answer as the step's
-  abbrev said : ℕ × Place × ℕ → Answer
+  abbrev said : ℕ × Place × ℕ → Verdict
   said z = answered (z .0) (z .2) 0 (bodyOf (z .1) d u)
 
   module _ (opened : isOpen x (w .desk .numbers) ≡ true) (inside : r < rows d) where

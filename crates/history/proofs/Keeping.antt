@@ -32,7 +32,7 @@ use Rattle.seen.specs.Seen.{asStanding, standings}
 use Rattle.seen.proofs.Desks.{fresh-sessions, fresh-long}
 use Rattle.upheld.proofs.Kept.{sealed-rows, sealed-whole, sealed-standing, fresh-rows, fresh-whole, fresh-standing}
 use Rattle.upheld.proofs.Statuses.{sealable-sealed, sealable-fresh}
-use Rattle.history.specs.World.{World, world, turn}
+use Rattle.history.specs.World.{World, world, response}
 use Rattle.history.proofs.Worlds.{seen, Good, Goes, stay-allowed}
 
 -- ---- who has ended is not in work
@@ -104,7 +104,7 @@ format-lent d u s ok = firstOf-none (badLength (areas d u s)) 1 0 (λ z. omega a
 
 -- whatever was there before
 pub formatting : (w : World) (d u s : List ℕ) → formatRefusal (areas d u s) ≡ 0
-    → Goes w (format d u s) (turn (done 0 0 []) (world (formatted (areas d u s)) (freshDesk firstNumber)))
+    → Goes w (format d u s) (response (done 0 0 []) (world (formatted (areas d u s)) (freshDesk firstNumber)))
 formatting w d u s ok = record { keeps = formatted-good d u s (format-lent d u s ok); did = λ h x. sym (formatted-seen d u s (format-lent d u s ok)) }
 
 -- ---- seal
@@ -138,12 +138,12 @@ module _ (w : World) (g : Good w) where
   sealed-seen =
       machine-ext (seen w) (seen (world (sealed (w .held)) (w .desk))) refl (λ x. ap asStanding (sym (sealed-standing st x))) refl (λ q. sym (sealed-rows da un q))
 
-  pub sealing : Goes w seal (turn (done 0 0 []) (world (sealed (w .held)) (w .desk)))
+  pub sealing : Goes w seal (response (done 0 0 []) (world (sealed (w .held)) (w .desk)))
   sealing = record { keeps = sealed-good; did = λ h x. sealed-seen }
 
   -- ---- open
 
-  pub opening : openRefusal (w .held) ≡ 0 → Goes w opens (turn (done 0 0 []) (world (w .held) (freshDesk (highest st + 1))))
+  pub opening : openRefusal (w .held) ≡ 0 → Goes w opens (response (done 0 0 []) (world (w .held) (freshDesk (highest st + 1))))
   unfolding openRefusal freshDesk
   opening ok =
       let l = firstOf-none (badLength (w .held)) 1 _ (λ z. omega arith) ok in

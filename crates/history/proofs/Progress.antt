@@ -30,16 +30,16 @@ use Rattle.machine.specs.Lines.{Call, isDone, format, seal, begin, next, insert
 use Rattle.machine.specs.Machine.{writable}
 use Rattle.seen.specs.Seen.{standings, rowOf}
 use Rattle.seen.proofs.Knowing.{sessionOf}
-use Rattle.history.specs.World.{World, Turn, says}
+use Rattle.history.specs.World.{World, Response, says}
 use Rattle.history.specs.Asked.{isEmpty}
 use Rattle.history.proofs.Worlds.{Good}
-use Rattle.history.proofs.Steps.{refusalOf, doneTurn, step-settled}
+use Rattle.history.proofs.Steps.{refusalOf, whenDone, step-settled}
 use Rattle.history.proofs.Accepts.{writable-is, may-pass}
 use Rattle.history.proofs.Writes.{view-few}
 use Rattle.history.proofs.Refused.{done-ok, withdraws, sweeps}
 
-is-done : (w : World) (c : Call) → isDone (doneTurn w c .answer) ≡ true → refusalOf w c ≡ 0 → isDone (says w c) ≡ true
-is-done w c d ok = step-settled w c (λ (t : Turn). isDone (t .answer) ≡ true) (λ e. d) (λ m e. absurd (omega (arith, e, ok)))
+is-done : (w : World) (c : Call) → isDone (whenDone w c .answer) ≡ true → refusalOf w c ≡ 0 → isDone (says w c) ≡ true
+is-done w c d ok = step-settled w c (λ (t : Response). isDone (t .answer) ≡ true) (λ e. d) (λ m e. absurd (omega (arith, e, ok)))
 
 both-ways : (a b : Bool) → (a ≡ true → b ≡ true) → (b ≡ true → a ≡ true) → a ≡ b
 both-ways true b f g = sym (f refl)

@@ -29,7 +29,7 @@ use Rattle.seen.specs.Seen.{standings, allHeld, rowOf, openSessions}
 use Rattle.seen.proofs.Knowing.{sessionOf, sees-is}
 use Rattle.seen.proofs.Desks.{find-open, find-closed}
 use Rattle.history.specs.World.{World, says, after, afterAll, linesOf}
-use Rattle.history.specs.Asked.{Proper, AllProper, Run, start, end, history, allSpare, bodyRead, Answers, standingIn}
+use Rattle.history.specs.Asked.{Proper, AllProper, Run, start, end, history, allSpare, bodyRead, Matches, standingIn}
 use Rattle.history.specs.Theorems.{Reading, ReadingOutside, NothingElse, Unaltered, SweepAltersNone, KeepingAltersNone, BeginAltersNone, RowCallsAlterNone, OthersAlterNone, Restores, Empties, Spares, NoSix, SealedOpens, Count, RefusedLeaves, SeesExactlyWhenCommittedBefore, ByNumber, Formats, Begins, Nexts, Seals, Inserts, Deletes, Updates, Ends, Sweeps}
 use Rattle.history.specs.Observers.{OpenOnDesk, StatementOnDesk, BodyOfTable, StandingOfRead}
 use Rattle.history.proofs.Worlds.{seen}
@@ -81,17 +81,17 @@ module _ (w : World) (h : History) (s : Stands w h) (n : ℕ) where
 
     -- ---- 1: reading
 
-    row-read : (r : ℕ) → r < rows (w .held .«data») → Answers (plainTable h n r) (says w (read n r))
+    row-read : (r : ℕ) → r < rows (w .held .«data») → Matches (plainTable h n r) (says w (read n r))
     unfolding session
     row-read r inside = go (reads (seen w) session r) (plainTable h n r) (plain-is r) (read-answers w (s .good) n r on-desk inside)
       where
         k : ℕ
         k = lookedAt (knows (seen w) session) (rowOf (w .held .«data») (w .held .undo) r)
 
-        go : (a b : Option Body) → a ≡ b → Reads a k (says w (read n r)) → Answers b (says w (read n r))
-        go a b e z = subst (λ (o : Option Body). Answers o (says w (read n r))) e (by a z)
+        go : (a b : Option Body) → a ≡ b → Reads a k (says w (read n r)) → Matches b (says w (read n r))
+        go a b e z = subst (λ (o : Option Body). Matches o (says w (read n r))) e (by a z)
           where
-            by : (a : Option Body) → Reads a k (says w (read n r)) → Answers a (says w (read n r))
+            by : (a : Option Body) → Reads a k (says w (read n r)) → Matches a (says w (read n r))
             by none z = z
             by (some y) z = (k, z)
 
@@ -105,7 +105,7 @@ module _ (w : World) (h : History) (s : Stands w h) (n : ℕ) where
     body-is : (r : ℕ) → bodyRead (says w (read n r)) ≡ plainTable h n r
     body-is r = ⊎-elim (λ (i : r < rows (w .held .«data»)). inner (plainTable h n r) (row-read r i)) (λ (o : rows (w .held .«data») ≤ r). outer o) (lt-or-le r (rows (w .held .«data»)))
       where
-        inner : (a : Option Body) → Answers a (says w (read n r)) → bodyRead (says w (read n r)) ≡ a
+        inner : (a : Option Body) → Matches a (says w (read n r)) → bodyRead (says w (read n r)) ≡ a
         inner none e = ap bodyRead e
         inner (some y) e = ap bodyRead (e .1)
 

@@ -33,8 +33,8 @@ use Rattle.sweeping.specs.Sweeping.{treated, allWhole, sweepRefusal}
 use Rattle.sweeping.proofs.Calls.{treats-few}
 use Rattle.machine.specs.Lines.{Call, refused, done, isDone, format, opens, seal, begin, next, insert, update, delete, read, commit, withdraw, sweep}
 use Rattle.machine.proofs.Basics.{true-false}
-use Rattle.history.specs.World.{World, Turn, says as answerOf, after}
-use Rattle.history.proofs.Steps.{refusalOf, doneTurn, step-settled}
+use Rattle.history.specs.World.{World, Response, says as answerOf, after}
+use Rattle.history.proofs.Steps.{refusalOf, whenDone, step-settled}
 use Rattle.history.proofs.Worlds.{Good}
 
 -- ---- a refused call leaves the world
@@ -43,7 +43,7 @@ pub done-refused : (a b n : ℕ) (y : List ℕ) → done a b y ≡ refused n →
 done-refused a b n y e = let z : _≡_ {A = ℕ} 0 1 = cc in absurd (omega arith)
 
 -- what is done is not refused
-not-refused : (w : World) (c : Call) (n : ℕ) → doneTurn w c .answer ≡ refused n → ⊥
+not-refused : (w : World) (c : Call) (n : ℕ) → whenDone w c .answer ≡ refused n → ⊥
 not-refused w (format d u s) n e = done-refused _ _ n _ e
 not-refused w opens n e = done-refused _ _ n _ e
 not-refused w seal n e = done-refused _ _ n _ e
@@ -59,17 +59,17 @@ not-refused w (sweep first quota) n e = done-refused _ _ n _ e
 
 pub leaves : (w : World) (c : Call) (n : ℕ) → answerOf w c ≡ refused n → after w c ≡ w
 leaves w c n =
-    step-settled w c (λ (t : Turn). t .answer ≡ refused n → t .left ≡ w) (λ e f. absurd (not-refused w c n f)) (λ m e f. refl)
+    step-settled w c (λ (t : Response). t .answer ≡ refused n → t .left ≡ w) (λ e f. absurd (not-refused w c n f)) (λ m e f. refl)
 
 -- the number answered is the one that the list of refusals gives
 pub refused-as : (w : World) (c : Call) (n : ℕ) → answerOf w c ≡ refused n → refusalOf w c ≡ n
 refused-as w c n =
-    step-settled w c (λ (t : Turn). t .answer ≡ refused n → refusalOf w c ≡ n) (λ e f. absurd (not-refused w c n f))
+    step-settled w c (λ (t : Response). t .answer ≡ refused n → refusalOf w c ≡ n) (λ e f. absurd (not-refused w c n f))
     (λ m e f. e ∙ (let z : suc m ≡ n = cc in z))
 
 -- and a call that was done was refused under none
 pub done-ok : (w : World) (c : Call) → isDone (answerOf w c) ≡ true → refusalOf w c ≡ 0
-done-ok w c = step-settled w c (λ (t : Turn). isDone (t .answer) ≡ true → refusalOf w c ≡ 0) (λ ok e. ok) (λ m e f. true-false false f refl)
+done-ok w c = step-settled w c (λ (t : Response). isDone (t .answer) ≡ true → refusalOf w c ≡ 0) (λ ok e. ok) (λ m e f. true-false false f refl)
 
 -- ---- no 6
 

@@ -31,7 +31,7 @@ use Rattle.upheld.proofs.Withdrawals.{withdraw-rows, withdraw-whole, withdraw-s
 use Rattle.upheld.proofs.Sweeps.{sweep-rows, sweep-whole, sweep-shaped}
 use Rattle.upheld.proofs.Headers.{sealable-undone, sealable-swept}
 use Rattle.upheld.proofs.Statuses.{sealable-status, highest-status}
-use Rattle.history.specs.World.{World, world, turn}
+use Rattle.history.specs.World.{World, world, response}
 use Rattle.history.proofs.Worlds.{seen, Good, Goes, stay-allowed}
 use Rattle.history.proofs.Sessions.{found}
 
@@ -58,7 +58,7 @@ module _ (w : World) (g : Good w) where
     abbrev gone : Both
     gone = undone x 0 d u
 
-    pub withdrawing : withdrawRefusal (w .held) (w .desk) x ≡ 0 → Goes w (Withdraw x) (turn (done 0 0 []) (world (withdrawn (w .held) x) (closed k (w .desk))))
+    pub withdrawing : withdrawRefusal (w .held) (w .desk) x ≡ 0 → Goes w (Withdraw x) (response (done 0 0 []) (world (withdrawn (w .held) x) (closed k (w .desk))))
     unfolding withdrawRefusal withdrawn closed
     withdrawing ok =
         let a = accepts d u s (w .desk) x ((someBroken x 0 d u, 6) ∷ []) ok in
@@ -101,7 +101,7 @@ module _ (w : World) (g : Good w) where
     abbrev fewer : ℕ
     fewer = heldFrom first n (both d u) - heldFrom first n (swept (w .held) (w .desk) first quota)
 
-    pub sweeping : sweepRefusal (w .held) (w .desk) first quota ≡ 0 → Goes w (Sweep first quota) (turn (done (first + n) fewer []) left)
+    pub sweeping : sweepRefusal (w .held) (w .desk) first quota ≡ 0 → Goes w (Sweep first quota) (response (done (first + n) fewer []) left)
     unfolding sweepRefusal swept
     sweeping ok =
         let l = firstOf-none (badLength (w .held)) 1 _ (λ z. omega arith) ok in

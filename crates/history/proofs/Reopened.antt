@@ -17,13 +17,14 @@ use Rattle.status.specs.Status.{statusAt}
 use Rattle.keep.specs.Whole.{highest, ended, allEnded}
 use Rattle.keep.specs.Keep.{sealRefusal, sealed}
 use Rattle.keep.proofs.Promises.{open-seal}
+use Rattle.chain.specs.Walk.{bodyOf}
 use Rattle.machine.specs.Table.{History}
 use Rattle.machine.specs.Lines.{done, isDone, seal, opens}
 use Rattle.machine.specs.Machine.{InWork, Session, find, isSome}
 use Rattle.machine.proofs.Basics.{true-false}
 use Rattle.machine.proofs.Opens.{in-work-open}
 use Rattle.seen.specs.Seen.{standings, sessionsFrom, openSessions}
-use Rattle.history.specs.World.{World, world, Turn, answered, step, says, after}
+use Rattle.history.specs.World.{World, world, Response, answered, step, says, after}
 use Rattle.history.proofs.Worlds.{Good}
 use Rattle.history.proofs.Steps.{step-settled}
 use Rattle.history.proofs.Keeping.{left-ended, standings-at}
@@ -54,7 +55,7 @@ module _ (w : World) (h : History) (s : Stands w h) where
           true-false (isSome (find n (openSessions (w .desk)))) (in-work-open (s .reach) n p l e) (ap (λ (d : List Session). isSome (find n d)) no-sessions)
 
   again : openCount (w .desk .numbers) ≡ 0 → says (world (sealed (w .held)) (w .desk)) opens ≡ done 0 0 []
-  unfolding step
+  unfolding step bodyOf
   again none =
       ap (λ (r : ℕ × Desk). answered (r .0) 0 0 [])
       (open-seal (w .held) (ap not (g .lengths)) (g .«data») (g .undo) (g .status) (le-leb (highest st) 32575 few) (all-ended none))
@@ -62,7 +63,7 @@ module _ (w : World) (h : History) (s : Stands w h) where
   pub opens-again : isDone (says w seal) ≡ true → says (after w seal) opens ≡ done 0 0 []
   unfolding sealRefusal
   opens-again =
-      step-settled w seal (λ (t : Turn). isDone (t .answer) ≡ true → says (t .left) opens ≡ done 0 0 [])
+      step-settled w seal (λ (t : Response). isDone (t .answer) ≡ true → says (t .left) opens ≡ done 0 0 [])
       (λ ok e. again (closed ok))
       (λ m e f. true-false false f refl)
     where

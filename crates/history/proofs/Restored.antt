@@ -11,7 +11,7 @@ use Rattle.kind.specs.Kind.{rows}
 use Rattle.records.specs.Slot.{slotAt, bodyAt}
 use Rattle.chain.proofs.Bodies.{slot-body}
 use Rattle.machine.specs.Table.{Body, History, hasWritten}
-use Rattle.machine.specs.Lines.{Call, Answer, refused, done, isDone, given, isWrite, heard, historyFrom, insert, withdraw}
+use Rattle.machine.specs.Lines.{Call, Verdict, refused, done, isDone, given, isWrite, heard, historyFrom, insert, withdraw}
 use Rattle.machine.specs.Machine.{Machine, Version, find, isSome, isNil, withdraw as Withdraw}
 use Rattle.machine.specs.Runs.{From, First, firstOf, add}
 use Rattle.machine.proofs.Basics.{true-false}
@@ -58,7 +58,7 @@ standing-is w r = go (ltb r (rows d)) refl (isEmpty w r) refl
 
 -- ---- withdrawal
 
-took : (w w′ : World) (n : ℕ) (a : Answer) → isDone a ≡ true → Did (seen w) (withdraw n) a (seen w′) → Took (seen w) (Withdraw n) (seen w′)
+took : (w w′ : World) (n : ℕ) (a : Verdict) → isDone a ≡ true → Did (seen w) (withdraw n) a (seen w′) → Took (seen w) (Withdraw n) (seen w′)
 took w w′ n (refused k) e d = true-false false e refl
 took w w′ n (done a b y) e d = d
 
@@ -71,7 +71,7 @@ module _ (w : World) (h : History) (s : Stands w h) (n r : ℕ) (before : hasWri
     abbrev later : World
     later = afterAll wrote cs
 
-    first-back : (a : Answer) → isDone a ≡ true → says w c ≡ a → isWrite n r c (given a) ≡ true → Did (seen w) c a (seen wrote)
+    first-back : (a : Verdict) → isDone a ≡ true → says w c ≡ a → isWrite n r c (given a) ≡ true → Did (seen w) c a (seen wrote)
         → isDone (says later (withdraw n)) ≡ true
         → firstOf (seen (after later (withdraw n)) .rows r) ≡ firstOf (seen w .rows r)
     first-back (refused k) e q wr d t = true-false false e refl
@@ -121,7 +121,7 @@ inserted-empty w h s n r b p e wr = standing-is w r ∙ ap (λ (vs : List Versio
     m : Machine
     m = seen w
 
-    go : (a : Answer) → isDone a ≡ true → isWrite n r (insert n b) (given a) ≡ true → Did (seen w) (insert n b) a (seen (after w (insert n b))) → m .rows r ≡ []
+    go : (a : Verdict) → isDone a ≡ true → isWrite n r (insert n b) (given a) ≡ true → Did (seen w) (insert n b) a (seen (after w (insert n b))) → m .rows r ≡ []
     go (refused k) e wr d = true-false false e refl
     go (done a j y) e wr d =
         let at : a ≡ r = eqb-true a r (and-true-right (eqb n n) (eqb a r) wr) in

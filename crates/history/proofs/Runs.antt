@@ -6,16 +6,17 @@ use mathlib.Core.List.{List, [], _∷_}
 use Rattle.ground.proofs.Ranges.{and-true-left, and-true-right}
 use borrow.Author.Tests.{not-true}
 use Rattle.kind.specs.Areas.{areas, badLength}
+use Rattle.chain.specs.Walk.{bodyOf}
 use Rattle.machine.specs.Table.{History}
 use Rattle.machine.specs.Lines.{Call, format, opens, seal, begin, next, insert, update, delete, read, commit, withdraw, sweep, isDone, isFormat, heard, historyFrom}
 use Rattle.machine.specs.Machine.{Machine, empty}
 use Rattle.machine.specs.Runs.{From, start as here, Reach}
 use Rattle.machine.proofs.Basics.{true-false}
 use Rattle.machine.proofs.Follows.{from-then, did-leads, did-reaches}
-use Rattle.history.specs.World.{World, Turn, step, says, after, afterAll, linesOf}
+use Rattle.history.specs.World.{World, Response, step, says, after, afterAll, linesOf}
 use Rattle.history.specs.Asked.{Proper, AllProper, Run, start, end, history, noFormat}
 use Rattle.history.proofs.Worlds.{seen, Good, Goes, stays}
-use Rattle.history.proofs.Steps.{refusalOf, doneTurn, step-settled}
+use Rattle.history.proofs.Steps.{refusalOf, whenDone, step-settled}
 use Rattle.history.proofs.Sessions.{moves, commits, begins}
 use Rattle.history.proofs.Writes.{inserting, deleting, updating}
 use Rattle.history.proofs.Removals.{withdrawing, sweeping}
@@ -24,7 +25,8 @@ use Rattle.history.proofs.Keeping.{formatted-good, formatted-seen, form
 -- ---- one call
 
 module _ (w : World) (g : Good w) where
-  does : (c : Call) → Proper c → refusalOf w c ≡ 0 → Goes w c (doneTurn w c)
+  does : (c : Call) → Proper c → refusalOf w c ≡ 0 → Goes w c (whenDone w c)
+  unfolding bodyOf
   does (format d u s) p ok = formatting w d u s ok
   does opens p ok = opening w g ok
   does seal p ok = sealing w g
@@ -72,14 +74,14 @@ leads-calls (c ∷ cs) w h s p n =
 pub stands-start : (x : Run) → Stands (start x) [] × (seen (start x) ≡ empty)
 stands-start x =
     step-settled (x .before) (format (x .«data») (x .undo) (x .status))
-    (λ (t : Turn). isDone (t .answer) ≡ true → Stands (t .left) [] × (seen (t .left) ≡ empty))
+    (λ (t : Response). isDone (t .answer) ≡ true → Stands (t .left) [] × (seen (t .left) ≡ empty))
     (λ ok e. made (format-lent (x .«data») (x .undo) (x .status) ok))
     (λ m e f. true-false false f refl)
     (x .formatted)
   where
     made : badLength (areas (x .«data») (x .undo) (x .status)) ≡ false
-        → Stands (doneTurn (x .before) (format (x .«data») (x .undo) (x .status)) .left) []
-        × (seen (doneTurn (x .before) (format (x .«data») (x .undo) (x .status)) .left) ≡ empty)
+        → Stands (whenDone (x .before) (format (x .«data») (x .undo) (x .status)) .left) []
+        × (seen (whenDone (x .before) (format (x .«data») (x .undo) (x .status)) .left) ≡ empty)
     made l =
         let e = formatted-seen (x .«data») (x .undo) (x .status) l in
         (record { good = formatted-good (x .«data») (x .undo) (x .status) l; reach = subst (λ (m : Machine). Reach m []) (sym e) here }, e)

@@ -27,7 +27,7 @@ use Rattle.machine.specs.Lines.{done, next as Next, commit as Commit, begin as 
 use Rattle.machine.specs.Machine.{find, isSome, effect, next, begin, commit}
 use Rattle.machine.proofs.Follows.{machine-ext}
 use Rattle.seen.specs.Seen.{openSessions}
-use Rattle.history.specs.World.{World, world, turn}
+use Rattle.history.specs.World.{World, world, response}
 use Rattle.seen.proofs.Desks.{find-open, moved-sessions, moved-long, closed-sessions, closed-long, begun-sessions, begun-long}
 use Rattle.seen.proofs.Counts.{open-at-most}
 use Rattle.seen.proofs.Standings.{standings-put, standings-field}
@@ -45,7 +45,7 @@ module _ (w : World) (g : Good w) where
     abbrev k : ℕ
     k = placeIn x (w .desk .numbers)
 
-    pub moves : nextRefusal (w .held) (w .desk) x ≡ 0 → Goes w (Next x) (turn (done 0 0 []) (world (w .held) (moved k (w .desk))))
+    pub moves : nextRefusal (w .held) (w .desk) x ≡ 0 → Goes w (Next x) (response (done 0 0 []) (world (w .held) (moved k (w .desk))))
     unfolding nextRefusal moved
     moves ok =
         let a = accepts (w .held .«data») (w .held .undo) (w .held .status) (w .desk) x ((eqb (getD (w .desk .statements) k 0) lastStatement, 14) ∷ []) ok in
@@ -73,7 +73,7 @@ module _ (w : World) (g : Good w) where
     -- ---- commit
 
     pub commits : commitRefusal (w .held) (w .desk) x ≡ 0
-        → Goes w (Commit x) (turn (done 0 0 []) (world (areas (w .held .«data») (w .held .undo) (putStatus x Committed (w .held .status))) (closed k (w .desk))))
+        → Goes w (Commit x) (response (done 0 0 []) (world (areas (w .held .«data») (w .held .undo) (putStatus x Committed (w .held .status))) (closed k (w .desk))))
     unfolding commitRefusal closed
     commits ok =
         let a = accepts (w .held .«data») (w .held .undo) (w .held .status) (w .desk) x [] ok in
@@ -107,7 +107,7 @@ module _ (w : World) (g : Good w) where
   noted = putField txnId 0 number (putStatus number InWork (w .held .status))
 
   pub begins : beginRefusal (w .held) (w .desk) ≡ 0
-      → Goes w Begin (turn (done number 0 []) (world (areas (w .held .«data») (w .held .undo) noted) (begun (w .desk))))
+      → Goes w Begin (response (done number 0 []) (world (areas (w .held .«data») (w .held .undo) noted) (begun (w .desk))))
   unfolding beginRefusal begun
   begins ok =
       let l = firstOf-none (badLength (w .held)) 1 _ (λ z. omega arith) ok in

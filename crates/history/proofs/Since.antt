@@ -5,10 +5,10 @@ use mathlib.Core.List.{List, [], _∷_}
 use Prim.Native.Nat.{ℕ, _<_}
 use Rattle.kind.specs.Kind.{rows}
 use Rattle.machine.specs.Table.{History, plainTable, openIn}
-use Rattle.machine.specs.Lines.{Call, format, opens, seal, begin, next, insert, update, delete, read, commit, withdraw, sweep, Answer, refused, done, isDone, heard, historyFrom, historyOf}
+use Rattle.machine.specs.Lines.{Call, format, opens, seal, begin, next, insert, update, delete, read, commit, withdraw, sweep, Verdict, refused, done, isDone, heard, historyFrom, historyOf}
 use Rattle.machine.proofs.Basics.{true-false}
 use Rattle.history.specs.World.{World, says, after, afterAll, linesOf}
-use Rattle.history.specs.Asked.{AllProper, history, Answers}
+use Rattle.history.specs.Asked.{AllProper, history, Matches}
 use Rattle.history.specs.Since.{accepted, formats, Since}
 use Rattle.history.proofs.Promises.{reading}
 
@@ -24,7 +24,7 @@ begins (format d u s) cs w h p e = record {
   happened = anew (says w (format d u s)) e;
 }
   where
-    anew : (a : Answer) → isDone a ≡ true
+    anew : (a : Verdict) → isDone a ≡ true
         → historyOf (linesOf (after w (format d u s)) cs) ≡ historyFrom (heard h (format d u s) a) (linesOf (after w (format d u s)) cs)
     anew (refused n) e = true-false false e refl
     anew (done a b y) e = refl
@@ -55,9 +55,9 @@ since w cs p e = since-from cs w [] p e
 
 -- the theorem of reading, of a world that such calls lead to
 pub since-reading : (w : World) (h : History) → Since w h → (n : ℕ) → openIn h n ≡ true → (r : ℕ) → r < rows (w .held .«data»)
-    → Answers (plainTable h n r) (says w (read n r))
+    → Matches (plainTable h n r) (says w (read n r))
 since-reading w h s n o r inside =
-    subst (λ (h : History). openIn h n ≡ true → Answers (plainTable h n r) (says w (read n r))) (s .happened)
-    (λ o. subst (λ (w : World). r < rows (w .held .«data») → Answers (plainTable (history (s .run)) n r) (says w (read n r))) (s .ends)
+    subst (λ (h : History). openIn h n ≡ true → Matches (plainTable h n r) (says w (read n r))) (s .happened)
+    (λ o. subst (λ (w : World). r < rows (w .held .«data») → Matches (plainTable (history (s .run)) n r) (says w (read n r))) (s .ends)
     (reading (s .run) n o r) inside)
     o

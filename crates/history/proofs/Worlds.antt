@@ -15,7 +15,7 @@ use Rattle.machine.specs.Table.{History}
 use Rattle.machine.specs.Runs.{Reach}
 use Rattle.machine.proofs.Follows.{Did}
 use Rattle.seen.specs.Seen.{seenAs}
-use Rattle.history.specs.World.{World, Turn, turn}
+use Rattle.history.specs.World.{World, Response, response}
 
 -- the world seen as the machine
 abbrev pub seen : World → Machine
@@ -34,12 +34,12 @@ pub record Good (w : World) : Type 0 where
   pub high : highest (w .held .status) + 1 ≡ w .desk .next
 
 -- the call leaves such a world, and did on the machine what its answer says
-pub record Goes (w : World) (c : Call) (t : Turn) : Type 0 where
+pub record Goes (w : World) (c : Call) (t : Response) : Type 0 where
   pub keeps : Good (t .left)
   pub did : (h : History) → Reach (seen w) h → Did (seen w) c (t .answer) (seen (t .left))
 
 -- a refused call
-pub stays : (w : World) → Good w → (c : Call) (n : ℕ) → Goes w c (turn (refused n) w)
+pub stays : (w : World) → Good w → (c : Call) (n : ℕ) → Goes w c (response (refused n) w)
 stays w g c n = record { keeps = g; did = λ h x. refl }
 
 -- three lengths that stayed are still allowed

@@ -27,7 +27,7 @@ use Rattle.seen.specs.Seen.{openSessions, standings, rowOf}
 use Rattle.seen.proofs.Desks.{find-open}
 use Rattle.upheld.proofs.Written.{insert-rows, delete-rows, update-rows, length-inserted, length-deleted, length-updatedData, length-updatedUndo}
 use Rattle.upheld.proofs.Headers.{sealable-inserted, sealable-deleted, sealable-updatedData, sealable-updatedUndo}
-use Rattle.history.specs.World.{World, world, turn}
+use Rattle.history.specs.World.{World, world, response}
 use Rattle.history.proofs.Worlds.{seen, Good, Goes, stay-allowed}
 use Rattle.seen.proofs.Rows.{row-empty}
 use Rattle.history.proofs.Accepts.{writable-is}
@@ -61,7 +61,7 @@ module _ (w : World) (g : Good w) (x : ℕ) where
     abbrev r : ℕ
     r = lowestEmpty d
 
-    pub inserting : insertRefusal (w .held) (w .desk) x y ≡ 0 → Goes w (Insert x y) (turn (done r 0 []) (world (areas (inserted x c r y d) u s) (w .desk)))
+    pub inserting : insertRefusal (w .held) (w .desk) x y ≡ 0 → Goes w (Insert x y) (response (done r 0 []) (world (areas (inserted x c r y d) u s) (w .desk)))
     inserting ok =
         let a = inserts d u s (w .desk) x y ok in
         let o = a .session .passed .opened in
@@ -93,7 +93,7 @@ module _ (w : World) (g : Good w) (x : ℕ) where
         ap (λ (z : Option Session). writable (standings s) z (rowOf d u r)) (find-open (w .desk) (g .sound) (g .long) x o)
         ∙ writable-is d u s (w .desk) (viewIn (w .desk) x) r (view-few (w .desk) x) (g .whole r (can .inside)) can
 
-    pub deleting : deleteRefusal (w .held) (w .desk) x r ≡ 0 → Goes w (Delete x r) (turn (done 0 0 []) (world (areas (deleted x c r d) u s) (w .desk)))
+    pub deleting : deleteRefusal (w .held) (w .desk) x r ≡ 0 → Goes w (Delete x r) (response (done 0 0 []) (world (areas (deleted x c r d) u s) (w .desk)))
     deleting ok =
         let a = deletes d u s (w .desk) x r ok in
         let o = a .session .passed .opened in
@@ -123,7 +123,7 @@ module _ (w : World) (g : Good w) (x : ℕ) where
       abbrev e : ℕ
       e = lowestFree u
 
-      pub updating : updateRefusal (w .held) (w .desk) x r y ≡ 0 → Goes w (Update x r y) (turn (done 0 0 []) (world (updated (w .held) (w .desk) x r y) (w .desk)))
+      pub updating : updateRefusal (w .held) (w .desk) x r y ≡ 0 → Goes w (Update x r y) (response (done 0 0 []) (world (updated (w .held) (w .desk) x r y) (w .desk)))
       unfolding updated
       updating ok =
           let a = updates d u s (w .desk) x r y ok in

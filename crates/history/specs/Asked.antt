@@ -10,7 +10,7 @@ use Rattle.little.specs.Little.{Bytes}
 use Rattle.kind.specs.Kind.{rows}
 use Rattle.records.specs.Slot.{slotAt, bodyAt}
 use Rattle.machine.specs.Table.{Body, History, hasWritten}
-use Rattle.machine.specs.Lines.{Call, format, opens, seal, begin, next, insert, update, delete, read, commit, withdraw, sweep, Answer, refused, done, isDone, given, isFormat, isUpdate, isWrite, spares, historyOf}
+use Rattle.machine.specs.Lines.{Call, format, opens, seal, begin, next, insert, update, delete, read, commit, withdraw, sweep, Verdict, refused, done, isDone, given, isFormat, isUpdate, isWrite, spares, historyOf}
 use Rattle.history.specs.World.{World, says, after, afterAll, linesOf}
 
 -- ---- the worlds that histories lead to
@@ -70,14 +70,14 @@ allSpare n (c ∷ cs) = spares n c && allSpare n cs
 -- ---- readings
 
 -- what a read says that the row holds
-abbrev pub bodyRead : Answer → Option Body
+abbrev pub bodyRead : Verdict → Option Body
 bodyRead (refused n) = none
 bodyRead (done a b y) = some y
 
 -- a read answers the body that the row should have, with a count; where it should have none it answers 7, "no version there"
-abbrev pub Answers : Option Body → Answer → Type 0
-Answers none a = a ≡ refused 7
-Answers (some b) a = (k : ℕ) × (a ≡ done k 0 b)
+abbrev pub Matches : Option Body → Verdict → Type 0
+Matches none a = a ≡ refused 7
+Matches (some b) a = (k : ℕ) × (a ≡ done k 0 b)
 
 -- ---- rows
 

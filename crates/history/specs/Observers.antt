@@ -13,10 +13,10 @@ use Rattle.kind.specs.Kind.{rows}
 use Rattle.records.specs.Slot.{slotAt, bodyAt}
 use Rattle.rows.specs.Rows.{viewIn}
 use Rattle.machine.specs.Table.{Body, plainTable, openIn, statementOf, committedBefore, hasWritten}
-use Rattle.machine.specs.Lines.{Call, format, insert, update, read, withdraw, Answer, refused, done, isDone, given, isWrite, spares, historyOf}
+use Rattle.machine.specs.Lines.{Call, format, insert, update, read, withdraw, Verdict, refused, done, isDone, given, isWrite, spares, historyOf}
 use Rattle.machine.specs.Observers.{SomeFormat}
 use Rattle.history.specs.World.{World, says, after, afterAll, linesOf}
-use Rattle.history.specs.Asked.{Proper, AllProper, Run, start, end, history, noFormat, allSpare, bodyRead, Answers, Standing, isEmpty, standingIn, updates, Withdrawal, withdrawnWorld}
+use Rattle.history.specs.Asked.{Proper, AllProper, Run, start, end, history, noFormat, allSpare, bodyRead, Matches, Standing, isEmpty, standingIn, updates, Withdrawal, withdrawnWorld}
 
 -- ---- runs
 
@@ -64,7 +64,7 @@ StatementOnDesk = (x : Run) (n : ℕ) → openIn (history x) n ≡ true → stat
 
 -- a read answers none by 7, and a body by that body with a count
 abbrev pub EveryAnswer : Type 0
-EveryAnswer = (a : Answer) → (Answers none a → a ≡ refused 7) × ((b : Body) → Answers (some b) a → (k : ℕ) × (a ≡ done k 0 b))
+EveryAnswer = (a : Verdict) → (Matches none a → a ≡ refused 7) × ((b : Body) → Matches (some b) a → (k : ℕ) × (a ≡ done k 0 b))
 
 -- what a read of any row by an open session says that it holds is what the plain table has
 abbrev pub BodyOfTable : Type 0

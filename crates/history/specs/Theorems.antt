@@ -16,13 +16,13 @@ use Rattle.rows.specs.Rows.{viewIn}
 use Rattle.machine.specs.Table.{Body, plainTable, openIn, committedBefore, hasWritten, numberTable, whenBegan, writesBefore, statementOf, play, mayWrite}
 use Rattle.machine.specs.Lines.{Call, format, opens, seal, begin, next, insert, update, delete, read, commit, withdraw, sweep, refused, done, isDone}
 use Rattle.history.specs.World.{World, says, after, afterAll}
-use Rattle.history.specs.Asked.{AllProper, Run, end, history, allSpare, bodyRead, Answers, isEmpty, standingIn, updates, Withdrawal, withdrawnWorld}
+use Rattle.history.specs.Asked.{AllProper, Run, end, history, allSpare, bodyRead, Matches, isEmpty, standingIn, updates, Withdrawal, withdrawnWorld}
 
 -- 1, READING: for every open session and every row, read answers a body exactly when the plain table has one, and then that body;
 -- otherwise it answers 7
 abbrev pub Reading : Type 0
 Reading = (x : Run) (n : ℕ) → openIn (history x) n ≡ true → (r : ℕ) → r < rows (end x .held .«data»)
-    → Answers (plainTable (history x) n r) (says (end x) (read n r))
+    → Matches (plainTable (history x) n r) (says (end x) (read n r))
 
 -- of a row that the area has not, the plain table has nothing, and read answers 5
 abbrev pub ReadingOutside : Type 0

@@ -1,18 +1,14 @@
 -- The world that a station lends, and one step of it: a call made on what the call before left ("01, What the station lends, and who
--- decides"). A step is made of the rules of the calls and of nothing else. Assumes nothing.
+-- decides"). A step is made of what the calls leave by their rules and of nothing else. Assumes nothing.
 use Prim.Native.Nat.{ℕ}
+use mathlib.Core.Bool.{cond}
 use mathlib.Core.List.{List, [], _∷_}
 use Rattle.ground.specs.Refuse.{settle}
 use Rattle.desk.specs.declared.Desk.{Desk}
 use Rattle.kind.specs.Areas.{Areas, areas}
-use Rattle.chain.specs.Walk.{bodyOf}
-use Rattle.keep.specs.Keep.{formatRule, openRule, sealRule}
-use Rattle.turns.specs.Turns.{beginRule, nextRule, commitRule}
-use Rattle.rows.specs.Rows.{insertRule, updateRule, deleteRule, readRule}
-use Rattle.undoing.specs.Undoing.{withdrawRule}
-use Rattle.sweeping.specs.Sweeping.{sweepRule}
+use Rattle.calls.specs.Calls.{Left, body, formatLeaves, openLeaves, sealLeaves, beginLeaves, nextLeaves, insertLeaves, updateLeaves, deleteLeaves, readLeaves, commitLeaves, withdrawLeaves, sweepLeaves}
 use Rattle.machine.specs.Table.{Body}
-use Rattle.machine.specs.Lines.{Call, format, opens, seal, begin, next, insert, update, delete, read, commit, withdraw, sweep, Answer, refused, done, Line}
+use Rattle.machine.specs.Lines.{Call, format, opens, seal, begin, next, insert, update, delete, read, commit, withdraw, sweep, Verdict, refused, done, isFormat, Line}
 
 -- the three areas, and the session record
 pub record World : Type 0 where
@@ -23,57 +19,46 @@ abbrev pub world : Areas → Desk → World
 world a d = record { held = a; desk = d }
 
 -- a call's answer, and the world that it leaves
-pub record Turn : Type 0 where
-  pub answer : Answer
+pub record Response : Type 0 where
+  pub answer : Verdict
   pub left : World
 
+abbrev pub response : Verdict → World → Response
+response a w = record { answer = a; left = w }
+
 -- by the number that a rule gives: refused where it is not 0, else done with what it reports
-abbrev pub answered : ℕ → ℕ → ℕ → Body → Answer
+abbrev pub answered : ℕ → ℕ → ℕ → Body → Verdict
 answered n a b y = settle n (done a b y) refused
 
-abbrev pub turn : Answer → World → Turn
-turn a w = record { answer = a; left = w }
+-- what a call leaves of a world; a format is lent areas of its own
+abbrev pub leftBy : World → Call → Left
+leftBy w (format d u s) = formatLeaves (areas d u s) (w .desk)
+leftBy w opens = openLeaves (w .held) (w .desk)
+leftBy w seal = sealLeaves (w .held) (w .desk)
+leftBy w begin = beginLeaves (w .held) (w .desk)
+leftBy w (next x) = nextLeaves (w .held) (w .desk) x
+leftBy w (insert x y) = insertLeaves (w .held) (w .desk) x y
+leftBy w (update x q y) = updateLeaves (w .held) (w .desk) x q y
+leftBy w (delete x q) = deleteLeaves (w .held) (w .desk) x q
+leftBy w (read x q) = readLeaves (w .held) (w .desk) x q
+leftBy w (commit x) = commitLeaves (w .held) (w .desk) x
+leftBy w (withdraw x) = withdrawLeaves (w .held) (w .desk) x
+leftBy w (sweep first quota) = sweepLeaves (w .held) (w .desk) first quota
 
--- format and open hand a desk back where they are done; where they are refused the world stays
-unfoldable pub step : World → Call → Turn
-step w (format d u s) =
-    let r = formatRule (areas d u s) in
-    turn (answered (r .0 .0) 0 0 []) (settle (r .0 .0) (world (r .1) (r .0 .1)) (λ (n : ℕ). w))
-step w opens =
-    let r = openRule (w .held) in
-    turn (answered (r .0) 0 0 []) (settle (r .0) (world (w .held) (r .1)) (λ (n : ℕ). w))
-step w seal =
-    let r = sealRule (w .held) (w .desk) in
-    turn (answered (r .0) 0 0 []) (world (r .1) (w .desk))
-step w begin =
-    let r = beginRule (w .held) (w .desk) in
-    turn (answered (r .0 .0) (r .0 .1) 0 []) (world (areas (w .held .«data») (w .held .undo) (r .1)) (r .0 .2))
-step w (next x) =
-    let r = nextRule (w .held) (w .desk) x in
-    turn (answered (r .0) 0 0 []) (world (w .held) (r .1))
-step w (insert x y) =
-    let r = insertRule (w .held) (w .desk) x y in
-    turn (answered (r .0 .0) (r .0 .1) 0 []) (world (areas (r .1) (w .held .undo) (w .held .status)) (w .desk))
-step w (update x q y) =
-    let r = updateRule (w .held) (w .desk) x q y in
-    turn (answered (r .0) 0 0 []) (world (r .1) (w .desk))
-step w (delete x q) =
-    let r = deleteRule (w .held) (w .desk) x q in
-    turn (answered (r .0) 0 0 []) (world (areas (r .1) (w .held .undo) (w .held .status)) (w .desk))
-step w (read x q) =
-    let r = readRule (w .held) (w .desk) x q in
-    turn (answered (r .0) (r .2) 0 (bodyOf (r .1) (w .held .«data») (w .held .undo))) w
-step w (commit x) =
-    let r = commitRule (w .held) (w .desk) x in
-    turn (answered (r .0 .0) 0 0 []) (world (areas (w .held .«data») (w .held .undo) (r .1)) (r .0 .1))
-step w (withdraw x) =
-    let r = withdrawRule (w .held) (w .desk) x in
-    turn (answered (r .0 .0) 0 0 []) (world (r .1) (r .0 .1))
-step w (sweep first quota) =
-    let r = sweepRule (w .held) (w .desk) first quota in
-    turn (answered (r .0 .0) (r .0 .1) (r .0 .2) []) (world (r .1) (w .desk))
+abbrev pub verdictOf : Left → Verdict
+verdictOf l = answered (l .code) (l .first) (l .second) (body l)
 
-abbrev pub says : World → Call → Answer
+abbrev pub worldAfter : Left → World
+worldAfter l = world (l .lent) (l .desk)
+
+-- the answer and the world of it: a refused format leaves the world, and not the areas that it was lent
+abbrev pub responds : World → Call → Left → Response
+responds w c l = response (verdictOf l) (cond (isFormat c) (settle (l .code) (worldAfter l) (λ (n : ℕ). w)) (worldAfter l))
+
+unfoldable pub step : World → Call → Response
+step w c = responds w c (leftBy w c)
+
+abbrev pub says : World → Call → Verdict
 says w c = step w c .answer
 
 abbrev pub after : World → Call → World

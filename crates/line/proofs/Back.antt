@@ -14,8 +14,8 @@ use Rattle.numeral.specs.Numeral.{numeralOf, hexOf}
 use Rattle.numeral.proofs.Laws.{number-back, numeral-length, numeral-no-tab, numeral-no-newline, body-back, hex-length, hex-no-tab, hex-no-newline}
 use Rattle.line.specs.declared.Verb.{Verb}
 use Rattle.line.specs.declared.Verb.the-variants.{Format, Open, Seal, Begin, Next, Insert, Update, Delete, Read, Commit, Withdraw, Sweep, IllFormed}
-use Rattle.line.specs.declared.Call.{Call}
-use Rattle.line.specs.Line.{wordOf, sameAs, verbIn, verbOf, numbersOf, bodied, takeNumber, takeBody, noBody, ill, callIn, callOf, longest, wanted, lineOf, Proper}
+use Rattle.line.specs.declared.Command.{Command}
+use Rattle.line.specs.Line.{wordOf, sameAs, verbIn, verbOf, numbersOf, bodied, takeNumber, takeBody, noBody, ill, commandIn, commandOf, longest, wanted, lineOf, Proper}
 
 -- ---- names
 
@@ -98,7 +98,7 @@ unfolding lacks
 wanted-lacks true f h = h
 wanted-lacks false f h = refl
 
-module _ (c : Call) (p : Proper c) where
+module _ (c : Command) (p : Proper c) where
   abbrev first-said : Bool
   first-said = ltb 0 (numbersOf (c .verb))
 
@@ -150,11 +150,11 @@ module _ (c : Call) (p : Proper c) where
           ++ (wanted first-said (numeralOf (c .first)) ++ (wanted second-said (numeralOf (c .second)) ++ (wanted (bodied (c .verb)) (hexOf (c .body)) ++ [])))
       flat = simp (append-assoc, append-nil)
 
-  pub call-back : callOf (lineOf c) ≡ c
-  unfolding callOf
-  call-back =
-      ap (λ (t : Bool). cond t ill (callIn (parts 9 (lineOf c)))) (le-ltb longest (length (lineOf c)) line-length)
-      ∙ ap callIn line-parts
+  pub command-back : commandOf (lineOf c) ≡ c
+  unfolding commandOf
+  command-back =
+      ap (λ (t : Bool). cond t ill (commandIn (parts 9 (lineOf c)))) (le-ltb longest (length (lineOf c)) line-length)
+      ∙ ap commandIn line-parts
       ∙ rw (
         verb-back (c .verb) (p .named),
         number-taken first-said (c .first) (asked second-said (numeralOf (c .second)) ++ (asked (bodied (c .verb)) (hexOf (c .body)) ++ [])) (p .first-fits) first-zero,

@@ -15,7 +15,7 @@ use Rattle.numeral.specs.Numeral.{numberIn, isBody, bodyIn}
 use Rattle.line.specs.declared.Verb.{Verb}
 use Rattle.line.specs.declared.NumberField.{NumberField}
 use Rattle.line.specs.declared.BodyField.{BodyField}
-use Rattle.line.specs.Line.{numbersOf, bodied, fields, left, saidBy, takeNumber, takeBody, noBody, call, ill, none, called, callIn, callOf, longest, verbOf}
+use Rattle.line.specs.Line.{numbersOf, bodied, fields, left, saidBy, takeNumber, takeBody, noBody, command, ill, none, called, commandIn, commandOf, longest, verbOf}
 
 -- ---- the next field
 
@@ -100,17 +100,17 @@ none-left s at h = by (ltb at (length s)) refl
 pub name-inside : (s : List ℕ) (end : ℕ) → end ≡ 0 + length (before 9 s) → end ≤ length s
 name-inside s end e = omega (arith, before-length 9 s)
 
-pub call-long : (s : List ℕ) → longest < length s → ill ≡ callOf s
-unfolding callOf
-call-long s h = rw (lt-ltb longest (length s) h)
+pub command-long : (s : List ℕ) → longest < length s → ill ≡ commandOf s
+unfolding commandOf
+command-long s h = rw (lt-ltb longest (length s) h)
 
 -- a line that is not too long: its name, and what stands behind it
-pub call-named : (s : List ℕ) (end : ℕ) (v : Verb) → length s ≤ longest → end ≡ 0 + length (before 9 s) → v ≡ verbOf (take (end - 0) s)
-    → callOf s ≡ called v (left s end)
-unfolding callOf left
-call-named s end v h e q =
-    ap (λ (t : Bool). cond t ill (callIn (fields s))) (le-ltb longest (length s) h)
-    ∙ ap callIn (parts-cut 9 s)
+pub command-named : (s : List ℕ) (end : ℕ) (v : Verb) → length s ≤ longest → end ≡ 0 + length (before 9 s) → v ≡ verbOf (take (end - 0) s)
+    → commandOf s ≡ called v (left s end)
+unfolding commandOf left
+command-named s end v h e q =
+    ap (λ (t : Bool). cond t ill (commandIn (fields s))) (le-ltb longest (length s) h)
+    ∙ ap commandIn (parts-cut 9 s)
     ∙ ap (λ (n : ℕ). called (verbOf (before 9 s)) (cond (ltb n (length s)) (parts 9 (drop (n + 1) s)) [])) long
     ∙ ap (λ (u : Verb). called u (cond (ltb end (length s)) (parts 9 (drop (end + 1) s)) [])) (named ∙ sym q)
   where
@@ -133,6 +133,6 @@ pub record Taken (s : List ℕ) (v : Verb) (n : ℕ) (w : Bool) (end : ℕ) (a b
 
 pub called-read : (s : List ℕ) (v : Verb) (n : ℕ) (w : Bool) (end : ℕ) (a b : NumberField) (c : BodyField) → Taken s v n w end a b c
     → called v (left s end)
-    ≡ cond (a .good && b .good && c .good && eqb (c .end) (length s)) (call v (a .value) (b .value) (c .bytes)) ill
+    ≡ cond (a .good && b .good && c .good && eqb (c .end) (length s)) (command v (a .value) (b .value) (c .bytes)) ill
 called-read s v n w end a b c r =
     rw (← r .numbers, ← r .body, ← r .first, ← r .second, ← r .last, none-left s (c .end) (r .inside))

@@ -16,7 +16,7 @@ use Rattle.numeral.specs.Numeral.{digitsAlone, saidFrom, leads, numberIn, nibbl
 use Rattle.numeral.proofs.Tests.{and-left, and-right}
 use Rattle.line.specs.declared.Verb.{Verb}
 use Rattle.line.specs.declared.Verb.the-variants.{Format, Open, Seal, Begin, Next, Insert, Update, Delete, Read, Commit, Withdraw, Sweep, IllFormed}
-use Rattle.line.specs.Line.{verbOf, numbersOf, bodied, fields, saidBy, takeNumber, takeBody, noBody, call, ill, none, called, callIn, callOf, longest, Proper}
+use Rattle.line.specs.Line.{verbOf, numbersOf, bodied, fields, saidBy, takeNumber, takeBody, noBody, command, ill, none, called, commandIn, commandOf, longest, Proper}
 
 -- ---- what a field says
 
@@ -101,7 +101,7 @@ module _ (v : Verb) (fs : List (List ℕ)) where
   abbrev c : Bool × List ℕ × List (List ℕ)
   c = takeBody (bodied v) (b .2)
 
-  proper : (v ≡ IllFormed → ⊥) → Proper (call v (a .1) (b .1) (c .1))
+  proper : (v ≡ IllFormed → ⊥) → Proper (command v (a .1) (b .1) (c .1))
   proper n = record {
     named = n;
     first-fits = number-fits (ltb 0 (numbersOf v)) fs;
@@ -117,7 +117,7 @@ module _ (v : Verb) (fs : List (List ℕ)) where
   called-proper = by (known v)
     where
       met : (t : Bool) → (v ≡ IllFormed → ⊥)
-          → (cond t (call v (a .1) (b .1) (c .1)) ill ≡ ill) ⊎ Proper (cond t (call v (a .1) (b .1) (c .1)) ill)
+          → (cond t (command v (a .1) (b .1) (c .1)) ill ≡ ill) ⊎ Proper (cond t (command v (a .1) (b .1) (c .1)) ill)
       met true n = inr (proper n)
       met false n = inl refl
 
@@ -125,11 +125,11 @@ module _ (v : Verb) (fs : List (List ℕ)) where
       by (inl e) = inl (rw e (ill-called fs))
       by (inr n) = met (a .0 && b .0 && c .0 && none (c .2)) n
 
-pub line-proper : (s : List ℕ) → (callOf s ≡ ill) ⊎ Proper (callOf s)
-unfolding callOf
+pub line-proper : (s : List ℕ) → (commandOf s ≡ ill) ⊎ Proper (commandOf s)
+unfolding commandOf
 line-proper s = by (ltb longest (length s)) (fields s)
   where
-    by : (t : Bool) (fs : List (List ℕ)) → (cond t ill (callIn fs) ≡ ill) ⊎ Proper (cond t ill (callIn fs))
+    by : (t : Bool) (fs : List (List ℕ)) → (cond t ill (commandIn fs) ≡ ill) ⊎ Proper (cond t ill (commandIn fs))
     by true fs = inl refl
     by false [] = inl refl
     by false (name ∷ fs) = called-proper (verbOf name) fs

@@ -12,7 +12,7 @@ use Rattle.numeral.specs.Numeral.{numberIn, numeralOf, isBody, bodyIn, hexOf}
 use Rattle.lines.specs.Span.{parts}
 use Rattle.line.specs.declared.Verb.{Verb}
 use Rattle.line.specs.declared.Verb.the-variants.{Format, Open, Seal, Begin, Next, Insert, Update, Delete, Read, Commit, Withdraw, Sweep, IllFormed}
-use Rattle.line.specs.declared.Call.{Call}
+use Rattle.line.specs.declared.Command.{Command}
 
 -- ---- names
 
@@ -112,37 +112,37 @@ takeBody false fs = (true, noBody, fs)
 takeBody true [] = (false, noBody, [])
 takeBody true (f ∷ fs) = (isBody f, bodyIn f, fs)
 
-abbrev pub call : Verb → ℕ → ℕ → List ℕ → Call
-call v a b body = record { verb = v; first = a; second = b; body = body }
+abbrev pub command : Verb → ℕ → ℕ → List ℕ → Command
+command v a b body = record { verb = v; first = a; second = b; body = body }
 
-abbrev pub ill : Call
-ill = call IllFormed 0 0 noBody
+abbrev pub ill : Command
+ill = command IllFormed 0 0 noBody
 
 abbrev pub none : List (List ℕ) → Bool
 none [] = true
 none (f ∷ fs) = false
 
 -- each field wanted is there, and none is left
-abbrev pub settled : Verb → (Bool × ℕ × List (List ℕ)) → (Bool × ℕ × List (List ℕ)) → (Bool × List ℕ × List (List ℕ)) → Call
-settled v a b c = cond (a .0 && b .0 && c .0 && none (c .2)) (call v (a .1) (b .1) (c .1)) ill
+abbrev pub settled : Verb → (Bool × ℕ × List (List ℕ)) → (Bool × ℕ × List (List ℕ)) → (Bool × List ℕ × List (List ℕ)) → Command
+settled v a b c = cond (a .0 && b .0 && c .0 && none (c .2)) (command v (a .1) (b .1) (c .1)) ill
 
-abbrev pub called : Verb → List (List ℕ) → Call
+abbrev pub called : Verb → List (List ℕ) → Command
 called v fs =
     let a = takeNumber (ltb 0 (numbersOf v)) fs in
     let b = takeNumber (ltb 1 (numbersOf v)) (a .2) in
     let c = takeBody (bodied v) (b .2) in
     settled v a b c
 
-abbrev pub callIn : List (List ℕ) → Call
-callIn [] = ill
-callIn (name ∷ fs) = called (verbOf name) fs
+abbrev pub commandIn : List (List ℕ) → Command
+commandIn [] = ill
+commandIn (name ∷ fs) = called (verbOf name) fs
 
 -- "at most 128 bytes before it"
 unfoldable pub longest : ℕ
 longest = 128
 
-unfoldable pub callOf : List ℕ → Call
-callOf line = cond (ltb longest (length line)) ill (callIn (fields line))
+unfoldable pub commandOf : List ℕ → Command
+commandOf line = cond (ltb longest (length line)) ill (commandIn (fields line))
 
 -- ---- a call written
 
@@ -153,7 +153,7 @@ abbrev pub wanted : Bool → List ℕ → List ℕ
 wanted true f = field f
 wanted false f = []
 
-unfoldable pub lineOf : Call → List ℕ
+unfoldable pub lineOf : Command → List ℕ
 lineOf c =
     wordOf (c .verb)
     ++ wanted (ltb 0 (numbersOf (c .verb))) (numeralOf (c .first))
@@ -161,7 +161,7 @@ lineOf c =
     ++ wanted (bodied (c .verb)) (hexOf (c .body))
 
 -- what a line can say: a call by its name, two numbers below 2^64, a body of 32 bytes; and what the line does not say is zero
-pub record Proper (c : Call) : Type 0 where
+pub record Proper (c : Command) : Type 0 where
   pub named : c .verb ≡ IllFormed → ⊥
   pub first-fits : c .first < 2 ^ 64
   pub second-fits : c .second < 2 ^ 64

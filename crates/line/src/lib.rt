@@ -3,7 +3,7 @@ use numeral::Number;
 ghost use mathlib.Core.Path.{_≡_};
 ghost use Prim.Native.Nat.{_≤_};
 ghost use lib.ListN.{length};
-ghost use Rattle.line.specs.Line.{sameAs, verbOf, numbersOf, bodied, callOf, ill, takeNumber, takeBody, left};
+ghost use Rattle.line.specs.Line.{sameAs, verbOf, numbersOf, bodied, commandOf, ill, takeNumber, takeBody, left};
 
 // The calls by name, and that a line is none.
 pub enum Verb {
@@ -23,7 +23,7 @@ pub enum Verb {
 }
 
 // A call as its line says it. What its line does not say is zero.
-pub struct Call {
+pub struct Command {
     pub verb: Verb,
     pub first: u64,
     pub second: u64,
@@ -207,10 +207,10 @@ fn body_at(line: &[u8], at: usize, wanted: bool) -> BodyField
 }
 
 // What an ill-formed line says.
-pub fn ill_formed() -> Call
+pub fn ill_formed() -> Command
     ensures { λ r. ⌜ r ≡ ill ⌝ }
 {
-    Call {
+    Command {
         verb: Verb::IllFormed,
         first: 0,
         second: 0,
@@ -219,8 +219,8 @@ pub fn ill_formed() -> Call
 }
 
 // The call that a line says, without its newline.
-pub fn read_call(line: &[u8]) -> Call
-    ensures { λ r. ⌜ r ≡ callOf (now (line .entry)) ⌝ }
+pub fn read_command(line: &[u8]) -> Command
+    ensures { λ r. ⌜ r ≡ commandOf (now (line .entry)) ⌝ }
 {
     if line.len() > LONGEST {
         return ill_formed();
@@ -233,7 +233,7 @@ pub fn read_call(line: &[u8]) -> Call
     let last = body_at(line, second.end, has_body(verb));
     let body = last.bytes;
     if first.good & second.good & last.good & (last.end == line.len()) {
-        Call {
+        Command {
             verb,
             first: first.value,
             second: second.value,

@@ -7,7 +7,7 @@ use mathlib.Core.Option.{Option, none, some}
 use mathlib.Core.List.{List, [], _∷_, _++_}
 use lib.ListN.{length}
 use Rattle.machine.specs.Table.{Body, plainTable, began, wrote, committed, withdrew, lastWrite, mayWrite}
-use Rattle.machine.specs.Lines.{Call, format, read, Answer, refused, done, Line, historyOf, begin as Begin, insert as Insert, update as Update, delete as Delete, commit as Commit, withdraw as Withdraw, sweep as Sweep}
+use Rattle.machine.specs.Lines.{Call, format, read, Verdict, refused, done, Line, historyOf, begin as Begin, insert as Insert, update as Update, delete as Delete, commit as Commit, withdraw as Withdraw, sweep as Sweep}
 use Rattle.machine.specs.Machine.{Version, Status, Committed, Session, Machine, empty, reads, find, mark, dead, cut, Step, begin, next, insert, update, delete, commit, sweep, accept, effect}
 
 Z : Body
@@ -18,7 +18,7 @@ F = 15 ∷ []
 
 -- ---- the run, as its lines say
 
-answers : Call → Answer → Line
+answers : Call → Verdict → Line
 answers c a = record { call = c; answer = a }
 
 line-by-line : List Line

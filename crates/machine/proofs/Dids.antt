@@ -8,7 +8,7 @@ use lib.ListN.{length}
 use borrow.Author.Tests.{eqb-true}
 use Rattle.ground.proofs.Ranges.{and-true-left, and-true-right}
 use Rattle.machine.specs.Table.{History}
-use Rattle.machine.specs.Lines.{Call, Answer, refused, done, told, isDone, isUpdate, isWrite, format, opens, seal, read, begin as Begin, next as Next, insert as Insert, update as Update, delete as Delete, commit as Commit, withdraw as Withdraw, sweep as Sweep}
+use Rattle.machine.specs.Lines.{Call, Verdict, refused, done, told, isDone, isUpdate, isWrite, format, opens, seal, read, begin as Begin, next as Next, insert as Insert, update as Update, delete as Delete, commit as Commit, withdraw as Withdraw, sweep as Sweep}
 use Rattle.machine.specs.Machine.{Machine, empty, isNil, Step, begin, next, insert, update, delete, commit, withdraw, sweep, accept, effect}
 use Rattle.machine.specs.Runs.{add, oneMore, tally, Writes}
 use Rattle.machine.proofs.Basics.{true-false}
@@ -55,7 +55,7 @@ module _ (r k : ℕ) where
   call-length m (Withdraw n) a m′ e l = step-length m m′ (withdraw n) (e .1) l
   call-length m (Sweep q quota) a m′ (n, e) l = same-length (sweeps q n m) m′ e (sweeps-length n q m l)
 
-  pub did-length : (m : Machine) (c : Call) (a : Answer) (m′ : Machine) → Did m c a m′ → length (m .rows r) ≤ suc k
+  pub did-length : (m : Machine) (c : Call) (a : Verdict) (m′ : Machine) → Did m c a m′ → length (m .rows r) ≤ suc k
       → length (m′ .rows r) ≤ suc (cond (isDone a && isUpdate r c) (suc k) k)
   did-length m c (refused n) m′ e l = same-length m m′ e l
   did-length m c (done a b y) m′ e l = call-length m c a m′ e l

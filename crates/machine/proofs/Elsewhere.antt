@@ -9,7 +9,7 @@ use native.Mathlib.Omega.{arith}
 use lib.Dec.{eqb, ltb}
 use borrow.Author.Tests.{ne-eqb, le-ltb, not-true}
 use Rattle.machine.specs.Table.{Body, History, wrote, plainTable, committedTable, whenBegan, writesBefore, statementOf, play, openIn}
-use Rattle.machine.specs.Lines.{Call, Answer, refused, done, told, heard, spares, format, opens, seal, read, begin, next, insert, update, delete, commit, withdraw, sweep}
+use Rattle.machine.specs.Lines.{Call, Verdict, refused, done, told, heard, spares, format, opens, seal, read, begin, next, insert, update, delete, commit, withdraw, sweep}
 use Rattle.machine.specs.Machine.{Machine, find}
 use Rattle.machine.specs.Runs.{Reach}
 use Rattle.machine.proofs.Basics.{true-false}
@@ -48,12 +48,12 @@ module _ {m : Machine} {h : History} (x : Reach m h) (n : ℕ) (o : openIn h n �
   call-spares (withdraw s) a m′ e k r = refl
   call-spares (sweep q t) a m′ e k r = refl
 
-  pub plain-spared : (c : Call) (a : Answer) (m′ : Machine) → Did m c a m′ → spares n c ≡ true → (r : ℕ) → plainTable (heard h c a) n r ≡ plainTable h n r
+  pub plain-spared : (c : Call) (a : Verdict) (m′ : Machine) → Did m c a m′ → spares n c ≡ true → (r : ℕ) → plainTable (heard h c a) n r ≡ plainTable h n r
   plain-spared c (refused j) m′ e k r = refl
   plain-spared c (done a b y) m′ e k r = call-spares c a m′ e k r
 
 -- and S stays open
-pub open-spared : (h : History) (n : ℕ) (c : Call) (a : Answer) → spares n c ≡ true → openIn h n ≡ true → openIn (heard h c a) n ≡ true
+pub open-spared : (h : History) (n : ℕ) (c : Call) (a : Verdict) → spares n c ≡ true → openIn h n ≡ true → openIn (heard h c a) n ≡ true
 open-spared h n c (refused k) s o = o
 open-spared h n (format d u s) (done a b y) k o = true-false false k refl
 open-spared h n opens (done a b y) k o = o

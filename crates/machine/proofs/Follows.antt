@@ -8,7 +8,7 @@ use native.Mathlib.Omega.{arith}
 use lib.Dec.{eqb, leb, ltb}
 use borrow.Author.Tests.{eqb-true, eqb-false, eq-eqb, leb-true, leb-false, le-leb, lt-leb, ltb-true, ltb-false, lt-ltb, le-ltb}
 use Rattle.machine.specs.Table.{History, began}
-use Rattle.machine.specs.Lines.{Call, Answer, refused, done, told, heard, isFormat, format, opens, seal, read, begin as Begin, next as Next, insert as Insert, update as Update, delete as Delete, commit as Commit, withdraw as Withdraw, sweep as Sweep}
+use Rattle.machine.specs.Lines.{Call, Verdict, refused, done, told, heard, isFormat, format, opens, seal, read, begin as Begin, next as Next, insert as Insert, update as Update, delete as Delete, commit as Commit, withdraw as Withdraw, sweep as Sweep}
 use Rattle.machine.specs.Machine.{InWork, Session, Machine, empty, swept, Step, begin, next, insert, update, delete, commit, withdraw, sweep, accept, effect}
 use Rattle.machine.specs.Runs.{From, start, after, Reach}
 use Rattle.machine.proofs.Basics.{true-false}
@@ -85,7 +85,7 @@ DidCall m (Withdraw n) a m′ = Took m (withdraw n) m′
 DidCall m (Sweep r quota) a m′ = (n : ℕ) × (sweeps r n m ≡ m′)
 
 -- a refused call did nothing
-abbrev pub Did : Machine → Call → Answer → Machine → Type 0
+abbrev pub Did : Machine → Call → Verdict → Machine → Type 0
 Did m c (refused k) m′ = m ≡ m′
 Did m c (done a b y) m′ = DidCall m c a m′
 
@@ -113,12 +113,12 @@ leads-call m (Commit n) a m′ f e h = to-where (e .1) (after start (commit n) (
 leads-call m (Withdraw n) a m′ f e h = to-where (e .1) (after start (withdraw n) (e .0))
 leads-call m (Sweep r quota) a m′ f (n, e) h = to-where e (from-sweeps n r m m h start)
 
-pub did-leads : (m : Machine) (c : Call) (a : Answer) (m′ : Machine) → isFormat c ≡ false → Did m c a m′ → (h : History) → From m h m′ (heard h c a)
+pub did-leads : (m : Machine) (c : Call) (a : Verdict) (m′ : Machine) → isFormat c ≡ false → Did m c a m′ → (h : History) → From m h m′ (heard h c a)
 did-leads m c (refused k) m′ f e h = to-where e start
 did-leads m c (done a b y) m′ f e h = leads-call m c a m′ f e h
 
 -- and an accepted format starts anew
-pub did-reaches : (m : Machine) (c : Call) (a : Answer) (m′ : Machine) → Did m c a m′ → (h : History) → Reach m h → Reach m′ (heard h c a)
+pub did-reaches : (m : Machine) (c : Call) (a : Verdict) (m′ : Machine) → Did m c a m′ → (h : History) → Reach m h → Reach m′ (heard h c a)
 did-reaches m c (refused k) m′ e h x = subst (λ (z : Machine). Reach z h) e x
 did-reaches m c (done a b y) m′ e h x = go (isFormat c) refl
   where

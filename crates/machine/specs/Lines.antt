@@ -26,13 +26,13 @@ pub data Call : Type 0 where
 
 -- refused, under a number of 01's table; or done, with two numbers and a body: "begin the number, insert the row, read count and body,
 -- sweep next row and removed, the rest none", and 0 or no bytes where there is none
-pub data Answer : Type 0 where
-  refused : ℕ → Answer
-  done : ℕ → ℕ → Body → Answer
+pub data Verdict : Type 0 where
+  refused : ℕ → Verdict
+  done : ℕ → ℕ → Body → Verdict
 
 pub record Line : Type 0 where
   pub call : Call
-  pub answer : Answer
+  pub answer : Verdict
 
 -- the call is no format, and neither moves nor ends session n
 abbrev pub spares : ℕ → Call → Bool
@@ -51,12 +51,12 @@ spares n (sweep r q) = true
 
 -- ---- what a line says
 
-abbrev pub isDone : Answer → Bool
+abbrev pub isDone : Verdict → Bool
 isDone (refused n) = false
 isDone (done a b y) = true
 
 -- the first number of an answer
-abbrev pub given : Answer → ℕ
+abbrev pub given : Verdict → ℕ
 given (refused n) = 0
 given (done a b y) = a
 
@@ -123,7 +123,7 @@ told h (withdraw s) a = withdrew s ∷ h
 told h (sweep r q) a = h
 
 -- a refused call did nothing
-abbrev pub heard : History → Call → Answer → History
+abbrev pub heard : History → Call → Verdict → History
 heard h c (refused n) = h
 heard h c (done a b x) = told h c a
 

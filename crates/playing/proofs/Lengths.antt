@@ -3,6 +3,8 @@
 use Prim.Native.Nat.{ℕ, _≤_}
 use mathlib.Core.List.{List}
 use lib.ListN.{length}
+use Rattle.answer.specs.declared.Answer.the-variants.{IllFormed as Ill}
+use Rattle.answer.specs.Code.{codeOf}
 use Rattle.desk.specs.declared.Desk.{Desk}
 use Rattle.kind.specs.Areas.{Areas}
 use Rattle.chain.specs.Walk.{bodyOf}
@@ -14,30 +16,30 @@ use Rattle.undoing.specs.Undoing.{withdrawRule}
 use Rattle.sweeping.specs.Sweeping.{sweepRule}
 use Rattle.line.specs.declared.Verb.{Verb}
 use Rattle.line.specs.declared.Verb.the-variants.{Format, Open, Seal, Begin, Next, Insert, Update, Delete, Read, Commit, Withdraw, Sweep, IllFormed}
-use Rattle.line.specs.declared.Call.{Call}
+use Rattle.line.specs.declared.Command.{Command}
 use Rattle.reply.specs.Reply.{longest}
 use Rattle.reply.proofs.Sayings.{answer-length-plain, answer-length-numbered, answer-length-paired, answer-length-bodied}
-use Rattle.playing.specs.Playing.{lineOf, formatTurn, openTurn, sealTurn, beginTurn, nextTurn, insertTurn, updateTurn, deleteTurn, readTurn, commitTurn, withdrawTurn, sweepTurn, illTurn, turnOf, playRule}
+use Rattle.playing.specs.Playing.{lineOf, playedBy, playRule}
 
 module _ (a : Areas) (d : Desk) (x y : ℕ) (body : List ℕ) where
-  turn-most : (v : Verb) → length (lineOf (turnOf v a d x y body)) ≤ longest
-  unfolding longest formatTurn openTurn sealTurn beginTurn nextTurn insertTurn updateTurn deleteTurn readTurn commitTurn withdrawTurn sweepTurn illTurn
-  turn-most Format = answer-length-plain (formatRule a .0 .0)
-  turn-most Open = answer-length-plain (openRule a .0)
-  turn-most Seal = answer-length-plain (sealRule a d .0)
-  turn-most Begin = answer-length-numbered (beginRule a d .0 .0) (beginRule a d .0 .1)
-  turn-most Next = answer-length-plain (nextRule a d x .0)
-  turn-most Insert = answer-length-numbered (insertRule a d x body .0 .0) (insertRule a d x body .0 .1)
-  turn-most Update = answer-length-plain (updateRule a d x y body .0)
-  turn-most Delete = answer-length-plain (deleteRule a d x y .0)
-  turn-most Read =
+  played-most : (v : Verb) → length (lineOf v (playedBy v a d x y body)) ≤ longest
+  unfolding longest
+  played-most Format = answer-length-plain (formatRule a .0 .0)
+  played-most Open = answer-length-plain (openRule a .0)
+  played-most Seal = answer-length-plain (sealRule a d .0)
+  played-most Begin = answer-length-numbered (beginRule a d .0 .0) (beginRule a d .0 .1)
+  played-most Next = answer-length-plain (nextRule a d x .0)
+  played-most Insert = answer-length-numbered (insertRule a d x body .0 .0) (insertRule a d x body .0 .1)
+  played-most Update = answer-length-plain (updateRule a d x y body .0)
+  played-most Delete = answer-length-plain (deleteRule a d x y .0)
+  played-most Read =
       let place = readRule a d x y .1 in
       answer-length-bodied (readRule a d x y .0) (readRule a d x y .2) (bodyOf place (a .«data») (a .undo)) (body-most place (a .«data») (a .undo))
-  turn-most Commit = answer-length-plain (commitRule a d x .0 .0)
-  turn-most Withdraw = answer-length-plain (withdrawRule a d x .0 .0)
-  turn-most Sweep = answer-length-paired (sweepRule a d x y .0 .0) (sweepRule a d x y .0 .1) (sweepRule a d x y .0 .2)
-  turn-most IllFormed = answer-length-plain 16
+  played-most Commit = answer-length-plain (commitRule a d x .0 .0)
+  played-most Withdraw = answer-length-plain (withdrawRule a d x .0 .0)
+  played-most Sweep = answer-length-paired (sweepRule a d x y .0 .0) (sweepRule a d x y .0 .1) (sweepRule a d x y .0 .2)
+  played-most IllFormed = answer-length-plain (codeOf Ill)
 
-pub answer-most : (a : Areas) (d : Desk) (c : Call) → length (lineOf (playRule a d c)) ≤ longest
+pub answer-most : (a : Areas) (d : Desk) (c : Command) → length (lineOf (c .verb) (playRule a d c)) ≤ longest
 unfolding playRule
-answer-most a d c = turn-most a d (c .first) (c .second) (c .body) (c .verb)
+answer-most a d c = played-most a d (c .first) (c .second) (c .body) (c .verb)

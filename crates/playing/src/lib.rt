@@ -1,18 +1,23 @@
 // One call of a script, played on a store, and its answer written as a line ("01, The script and one whole run"). Nothing is decided
-// here: each call is handed to its own function, and what that answers is said. The script's station carries a Desk from line to line,
+// here: each call is handed to its own function, and what that answers is said. The script carries a Desk from line to line,
 // so a call's words are made of it once, and where the call changes them, the Desk of them again.
+use answer::Answer;
 use desk::Desk;
-use line::Call;
+use line::Command;
 use line::Verb;
 use words::Words;
 ghost use mathlib.Core.Path.{_≡_};
 ghost use mathlib.Core.List.{[]};
 ghost use Prim.Native.Nat.{_+_, _≤_};
 ghost use lib.ListN.{length};
+ghost use Rattle.answer.specs.declared.Answer.the-variants.{IllFormed};
+ghost use Rattle.answer.specs.Code.{codeOf};
 ghost use Rattle.kind.specs.Areas.{areas};
 ghost use Rattle.words.specs.Words.{deskIn};
 ghost use Rattle.reply.specs.Reply.{longest, Says, answerLine};
-ghost use Rattle.playing.specs.Playing.{Plays, playRule, formatTurn, openTurn, sealTurn, beginTurn, nextTurn, insertTurn, updateTurn, deleteTurn, readTurn, commitTurn, withdrawTurn, sweepTurn};
+ghost use Rattle.line.specs.declared.Verb.the-variants.{Format, Open, Seal, Begin, Next, Insert, Update, Delete, Read, Commit, Withdraw, Sweep};
+ghost use Rattle.calls.specs.Calls.{formatLeaves, openLeaves, sealLeaves, beginLeaves, nextLeaves, insertLeaves, updateLeaves, deleteLeaves, readLeaves, commitLeaves, withdrawLeaves, sweepLeaves};
+ghost use Rattle.playing.specs.Playing.{Plays, playRule};
 
 // What a played call leaves beside the areas: the code, the desk, and where its line ends.
 pub struct Played {
@@ -20,9 +25,6 @@ pub struct Played {
     pub desk: Desk,
     pub end: usize,
 }
-
-// "An ill-formed, too long or unended line, or a number above 2^64 − 1, answers one 16"
-pub const ILL_FORMED: u32 = 16;
 
 // The desk that a call left in its words. They are lent whole: what a call had as `&mut` comes back without its length, which a
 // reference to all of them says by itself.
@@ -42,7 +44,7 @@ fn format(
     at: usize,
 ) -> Played
     requires { ⌜ at + longest ≤ length (now out) ⌝ }
-    ensures { λ r. ⌜ Plays (formatTurn (areas (now («data» .entry)) (now (undo .entry)) (now (status .entry))) desk) at (now (out .entry)) r (areas (now («data» .exit)) (now (undo .exit)) (now (status .exit))) (now (out .exit)) ⌝ }
+    ensures { λ r. ⌜ Plays Format (formatLeaves (areas (now («data» .entry)) (now (undo .entry)) (now (status .entry))) desk) at (now (out .entry)) r (areas (now («data» .exit)) (now (undo .exit)) (now (status .exit))) (now (out .exit)) ⌝ }
 {
     let o = keep::format(data, undo, status);
     let a = o.answer;
@@ -62,7 +64,7 @@ fn format(
 
 fn open(data: &[u8], undo: &[u8], status: &[u8], desk: Desk, out: &mut [u8], at: usize) -> Played
     requires { ⌜ at + longest ≤ length (now out) ⌝ }
-    ensures { λ r. ⌜ Plays (openTurn (areas (now («data» .entry)) (now (undo .entry)) (now (status .entry))) desk) at (now (out .entry)) r (areas (now («data» .entry)) (now (undo .entry)) (now (status .entry))) (now (out .exit)) ⌝ }
+    ensures { λ r. ⌜ Plays Open (openLeaves (areas (now («data» .entry)) (now (undo .entry)) (now (status .entry))) desk) at (now (out .entry)) r (areas (now («data» .entry)) (now (undo .entry)) (now (status .entry))) (now (out .exit)) ⌝ }
 {
     let o = keep::open(data, undo, status);
     let a = o.answer;
@@ -89,7 +91,7 @@ fn seal(
     at: usize,
 ) -> Played
     requires { ⌜ at + longest ≤ length (now out) ⌝ }
-    ensures { λ r. ⌜ Plays (sealTurn (areas (now («data» .entry)) (now (undo .entry)) (now (status .entry))) desk) at (now (out .entry)) r (areas (now («data» .exit)) (now (undo .exit)) (now (status .exit))) (now (out .exit)) ⌝ }
+    ensures { λ r. ⌜ Plays Seal (sealLeaves (areas (now («data» .entry)) (now (undo .entry)) (now (status .entry))) desk) at (now (out .entry)) r (areas (now («data» .exit)) (now (undo .exit)) (now (status .exit))) (now (out .exit)) ⌝ }
 {
     let w = words::words_of(desk);
     let a = keep::seal(data, undo, status, &w);
@@ -107,7 +109,7 @@ fn begin(
     at: usize,
 ) -> Played
     requires { ⌜ at + longest ≤ length (now out) ⌝ }
-    ensures { λ r. ⌜ Plays (beginTurn (areas (now («data» .entry)) (now (undo .entry)) (now (status .entry))) desk) at (now (out .entry)) r (areas (now («data» .entry)) (now (undo .entry)) (now (status .exit))) (now (out .exit)) ⌝ }
+    ensures { λ r. ⌜ Plays Begin (beginLeaves (areas (now («data» .entry)) (now (undo .entry)) (now (status .entry))) desk) at (now (out .entry)) r (areas (now («data» .entry)) (now (undo .entry)) (now (status .exit))) (now (out .exit)) ⌝ }
 {
     let mut w = words::words_of(desk);
     let b = turns::begin(data, undo, status, &mut w);
@@ -128,7 +130,7 @@ fn next(
     at: usize,
 ) -> Played
     requires { ⌜ at + longest ≤ length (now out) ⌝ }
-    ensures { λ r. ⌜ Plays (nextTurn (areas (now («data» .entry)) (now (undo .entry)) (now (status .entry))) desk session) at (now (out .entry)) r (areas (now («data» .entry)) (now (undo .entry)) (now (status .entry))) (now (out .exit)) ⌝ }
+    ensures { λ r. ⌜ Plays Next (nextLeaves (areas (now («data» .entry)) (now (undo .entry)) (now (status .entry))) desk session) at (now (out .entry)) r (areas (now («data» .entry)) (now (undo .entry)) (now (status .entry))) (now (out .exit)) ⌝ }
 {
     let mut w = words::words_of(desk);
     let a = turns::next(data, undo, status, &mut w, session);
@@ -149,7 +151,7 @@ fn insert(
     at: usize,
 ) -> Played
     requires { ⌜ at + longest ≤ length (now out) ⌝ }
-    ensures { λ r. ⌜ Plays (insertTurn (areas (now («data» .entry)) (now (undo .entry)) (now (status .entry))) desk session (now (body .entry))) at (now (out .entry)) r (areas (now («data» .exit)) (now (undo .entry)) (now (status .entry))) (now (out .exit)) ⌝ }
+    ensures { λ r. ⌜ Plays Insert (insertLeaves (areas (now («data» .entry)) (now (undo .entry)) (now (status .entry))) desk session (now (body .entry))) at (now (out .entry)) r (areas (now («data» .exit)) (now (undo .entry)) (now (status .entry))) (now (out .exit)) ⌝ }
 {
     let w = words::words_of(desk);
     let i = rows::insert(data, undo, status, &w, session, body);
@@ -171,7 +173,7 @@ fn update(
     at: usize,
 ) -> Played
     requires { ⌜ at + longest ≤ length (now out) ⌝ }
-    ensures { λ r. ⌜ Plays (updateTurn (areas (now («data» .entry)) (now (undo .entry)) (now (status .entry))) desk session row (now (body .entry))) at (now (out .entry)) r (areas (now («data» .exit)) (now (undo .exit)) (now (status .entry))) (now (out .exit)) ⌝ }
+    ensures { λ r. ⌜ Plays Update (updateLeaves (areas (now («data» .entry)) (now (undo .entry)) (now (status .entry))) desk session row (now (body .entry))) at (now (out .entry)) r (areas (now («data» .exit)) (now (undo .exit)) (now (status .entry))) (now (out .exit)) ⌝ }
 {
     let w = words::words_of(desk);
     let a = rows::update(data, undo, status, &w, session, row, body);
@@ -191,7 +193,7 @@ fn delete<'a>(
     at: usize,
 ) -> Played
     requires { ⌜ at + longest ≤ length (now out) ⌝ }
-    ensures { λ r. ⌜ Plays (deleteTurn (areas (now («data» .entry)) (now (undo .entry)) (now (status .entry))) desk session row) at (now (out .entry)) r (areas (now («data» .exit)) (now (undo .entry)) (now (status .entry))) (now (out .exit)) ⌝ }
+    ensures { λ r. ⌜ Plays Delete (deleteLeaves (areas (now («data» .entry)) (now (undo .entry)) (now (status .entry))) desk session row) at (now (out .entry)) r (areas (now («data» .exit)) (now (undo .entry)) (now (status .entry))) (now (out .exit)) ⌝ }
 {
     let w = words::words_of(desk);
     let a = rows::delete(data, undo, status, &w, session, row);
@@ -211,7 +213,7 @@ fn read<'a>(
     at: usize,
 ) -> Played
     requires { ⌜ at + longest ≤ length (now out) ⌝ }
-    ensures { λ r. ⌜ Plays (readTurn (areas (now («data» .entry)) (now (undo .entry)) (now (status .entry))) desk session row) at (now (out .entry)) r (areas (now («data» .entry)) (now (undo .entry)) (now (status .entry))) (now (out .exit)) ⌝ }
+    ensures { λ r. ⌜ Plays Read (readLeaves (areas (now («data» .entry)) (now (undo .entry)) (now (status .entry))) desk session row) at (now (out .entry)) r (areas (now («data» .entry)) (now (undo .entry)) (now (status .entry))) (now (out .exit)) ⌝ }
 {
     let w = words::words_of(desk);
     let r = rows::read(data, undo, status, &w, session, row);
@@ -233,7 +235,7 @@ fn commit(
     at: usize,
 ) -> Played
     requires { ⌜ at + longest ≤ length (now out) ⌝ }
-    ensures { λ r. ⌜ Plays (commitTurn (areas (now («data» .entry)) (now (undo .entry)) (now (status .entry))) desk session) at (now (out .entry)) r (areas (now («data» .entry)) (now (undo .entry)) (now (status .exit))) (now (out .exit)) ⌝ }
+    ensures { λ r. ⌜ Plays Commit (commitLeaves (areas (now («data» .entry)) (now (undo .entry)) (now (status .entry))) desk session) at (now (out .entry)) r (areas (now («data» .entry)) (now (undo .entry)) (now (status .exit))) (now (out .exit)) ⌝ }
 {
     let mut w = words::words_of(desk);
     let a = turns::commit(data, undo, status, &mut w, session);
@@ -253,7 +255,7 @@ fn withdraw(
     at: usize,
 ) -> Played
     requires { ⌜ at + longest ≤ length (now out) ⌝ }
-    ensures { λ r. ⌜ Plays (withdrawTurn (areas (now («data» .entry)) (now (undo .entry)) (now (status .entry))) desk session) at (now (out .entry)) r (areas (now («data» .exit)) (now (undo .exit)) (now (status .exit))) (now (out .exit)) ⌝ }
+    ensures { λ r. ⌜ Plays Withdraw (withdrawLeaves (areas (now («data» .entry)) (now (undo .entry)) (now (status .entry))) desk session) at (now (out .entry)) r (areas (now («data» .exit)) (now (undo .exit)) (now (status .exit))) (now (out .exit)) ⌝ }
 {
     let mut w = words::words_of(desk);
     let a = undoing::withdraw(data, undo, status, &mut w, session);
@@ -274,7 +276,7 @@ fn sweep(
     at: usize,
 ) -> Played
     requires { ⌜ at + longest ≤ length (now out) ⌝ }
-    ensures { λ r. ⌜ Plays (sweepTurn (areas (now («data» .entry)) (now (undo .entry)) (now (status .entry))) desk first quota) at (now (out .entry)) r (areas (now («data» .exit)) (now (undo .exit)) (now (status .entry))) (now (out .exit)) ⌝ }
+    ensures { λ r. ⌜ Plays Sweep (sweepLeaves (areas (now («data» .entry)) (now (undo .entry)) (now (status .entry))) desk first quota) at (now (out .entry)) r (areas (now («data» .exit)) (now (undo .exit)) (now (status .entry))) (now (out .exit)) ⌝ }
 {
     let w = words::words_of(desk);
     let s = sweeping::sweep(data, undo, status, &w, first, quota);
@@ -284,16 +286,14 @@ fn sweep(
     Played { code, desk, end }
 }
 
+// "An ill-formed, too long or unended line, or a number above 2^64 − 1, answers one 16"
 fn ill_formed(desk: Desk, out: &mut [u8], at: usize) -> Played
     requires { ⌜ at + longest ≤ length (now out) ⌝ }
-    ensures { λ r. ⌜ (r .code ≡ 16) × (r .desk ≡ desk) × Says (answerLine (r .code) []) at (now (out .entry)) (r .end) (now (out .exit)) ⌝ }
+    ensures { λ r. ⌜ (r .code ≡ codeOf IllFormed) × (r .desk ≡ desk) × Says (answerLine (r .code) []) at (now (out .entry)) (r .end) (now (out .exit)) ⌝ }
 {
-    let end = reply::plain(out, at, ILL_FORMED);
-    Played {
-        code: ILL_FORMED,
-        desk,
-        end,
-    }
+    let code = answer::code(Answer::IllFormed);
+    let end = reply::plain(out, at, code);
+    Played { code, desk, end }
 }
 
 // Plays a call, by its name.
@@ -302,17 +302,17 @@ pub fn play(
     undo: &mut [u8],
     status: &mut [u8],
     desk: Desk,
-    call: Call,
+    command: Command,
     out: &mut [u8],
     at: usize,
 ) -> Played
     requires { ⌜ at + longest ≤ length (now out) ⌝ }
-    ensures { λ r. ⌜ Plays (playRule (areas (now («data» .entry)) (now (undo .entry)) (now (status .entry))) desk call) at (now (out .entry)) r (areas (now («data» .exit)) (now (undo .exit)) (now (status .exit))) (now (out .exit)) ⌝ }
+    ensures { λ r. ⌜ Plays (command .verb) (playRule (areas (now («data» .entry)) (now (undo .entry)) (now (status .entry))) desk command) at (now (out .entry)) r (areas (now («data» .exit)) (now (undo .exit)) (now (status .exit))) (now (out .exit)) ⌝ }
 {
-    let verb = call.verb;
-    let x = call.first;
-    let row = call.second as usize;
-    let body = call.body;
+    let verb = command.verb;
+    let x = command.first;
+    let row = command.second as usize;
+    let body = command.body;
     match verb {
         Verb::Format => format(data, undo, status, desk, out, at),
         Verb::Open => open(data, undo, status, desk, out, at),

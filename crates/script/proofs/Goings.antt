@@ -10,28 +10,28 @@ use Rattle.kind.specs.Areas.{Areas}
 use Rattle.lines.specs.declared.Line.{Line}
 use Rattle.lines.specs.Lines.{lineAt}
 use Rattle.lines.proofs.Ends.{line-start, line-end, ended-end, unended-end}
-use Rattle.line.specs.declared.Call.{Call}
+use Rattle.line.specs.declared.Command.{Command}
 use Rattle.reply.specs.Reply.{longest}
-use Rattle.script.specs.declared.Station.{Station}
+use Rattle.script.specs.declared.Footing.{Footing}
 use Rattle.script.specs.declared.Ran.{Ran}
 use Rattle.script.specs.declared.Going.{Going}
-use Rattle.script.specs.Script.{Carried, carried, callIn, Steps, Rests, runRule, Runs, roomFor, begun, Goes}
-use Rattle.script.proofs.Runs.{line-left, Sofar, sofar-start, sofar-next, sofar-full, sofar-rest}
+use Rattle.script.specs.Script.{Carried, carried, commandIn, Steps, Rests, runRule, Yields, roomFor, begun, Goes}
+use Rattle.script.proofs.Portions.{line-left, Sofar, sofar-start, sofar-next, sofar-full, sofar-rest}
 
 -- ---- one line
 
 module _ (k : Carried) (text : List ℕ) (l : Line) (at : ℕ) (last : Bool) (made : ℕ) (buffer : List ℕ) (left : Areas) (behind : List ℕ) (is : l ≡ lineAt text at) where
-  pub goes-ended : (c : Call) (s : Station) (n : ℕ) (more : Bool)
+  pub goes-ended : (c : Command) (s : Footing) (n : ℕ) (more : Bool)
       → l .ended ≡ true
-      → c ≡ callIn k (take (l .end - l .start) (drop (l .start) text))
-      → Steps k c made buffer (record { station = s; end = n }) left behind
+      → c ≡ commandIn k (take (l .end - l .start) (drop (l .start) text))
+      → Steps k c made buffer (record { footing = s; end = n }) left behind
       → length behind ≡ length buffer
       → more ≡ roomFor (length behind) n
-      → Goes k text l last made buffer (record { ran = record { station = s; taken = l .behind; made = n }; more = more }) left behind
-  goes-ended c s n more here call steps long room = record {
+      → Goes k text l last made buffer (record { ran = record { footing = s; taken = l .behind; made = n }; more = more }) left behind
+  goes-ended c s n more here command steps long room = record {
     inside = (omega (arith, ended-end text at l is here .0, ended-end text at l is here .1), steps .within);
     ended = λ _. (
-      subst (λ (x : Call). Steps k x made buffer (record { station = s; end = n }) left behind) call steps,
+      subst (λ (x : Command). Steps k x made buffer (record { footing = s; end = n }) left behind) command steps,
       refl,
       room ∙ ap (λ (m : ℕ). roomFor m n) long,
     );
@@ -42,7 +42,7 @@ module _ (k : Carried) (text : List ℕ) (l : Line) (at : ℕ) (last : Bool) (ma
       → at ≤ length text
       → l .ended ≡ false
       → (r .taken ≤ l .end) × (r .made ≤ length buffer)
-      → Rests (k .station) (l .start) (l .end - l .start) last made buffer r behind
+      → Rests (k .footing) (l .start) (l .end - l .start) last made buffer r behind
       → left ≡ k .lent
       → Goes k text l last made buffer (record { ran = r; more = false }) left behind
   goes-unended r h past inside rests same = record {
@@ -69,10 +69,10 @@ pub record Holds (text : List ℕ) (last : Bool) (k₀ : Carried) (out₀ : List
   pub goes : so .more ≡ true
       → (so .ran .taken ≡ at)
       × (so .ran .made + longest ≤ length out₀)
-      × Sofar text last k₀ out₀ (carried (so .ran .station) a) at (so .ran .made) out
-  pub done : so .more ≡ false → Runs (runRule k₀ text last (length out₀)) out₀ (so .ran) a out
+      × Sofar text last k₀ out₀ (carried (so .ran .footing) a) at (so .ran .made) out
+  pub done : so .more ≡ false → Yields (runRule k₀ text last (length out₀)) out₀ (so .ran) a out
 
-pub holds-start : (text : List ℕ) (last : Bool) (s : Station) (a : Areas) (out : List ℕ) → Holds text last (carried s a) out a out 0 (begun s (length out))
+pub holds-start : (text : List ℕ) (last : Bool) (s : Footing) (a : Areas) (out : List ℕ) → Holds text last (carried s a) out a out 0 (begun s (length out))
 unfolding begun
 holds-start text last s a out = record {
   inside = (omega arith, omega arith);
@@ -83,7 +83,7 @@ holds-start text last s a out = record {
 
 module _ (text : List ℕ) (last : Bool) (k₀ : Carried) (out₀ : List ℕ) (a : Areas) (out : List ℕ) (at : ℕ) (so : Going) (h : Holds text last k₀ out₀ a out at so) (on : so .more ≡ true)
     (l : Line) (is : l ≡ lineAt text at) (r : Going) (left : Areas) (out′ : List ℕ) (same : length out′ ≡ length out)
-    (went : Goes (carried (so .ran .station) a) text l last (so .ran .made) out r left out′) where
+    (went : Goes (carried (so .ran .footing) a) text l last (so .ran .made) out r left out′) where
   place : at ≤ length text
   place = omega (arith, h .goes on .0, h .inside .0)
 
@@ -91,11 +91,11 @@ module _ (text : List ℕ) (last : Bool) (k₀ : Carried) (out₀ : List ℕ) (a
   starts = line-start text at l is
 
   -- an ended line
-  so-far : l .ended ≡ true → Sofar text last k₀ out₀ (carried (r .ran .station) left) (l .behind) (r .ran .made) out′
+  so-far : l .ended ≡ true → Sofar text last k₀ out₀ (carried (r .ran .footing) left) (l .behind) (r .ran .made) out′
   so-far here =
-      subst⁻¹ (λ (n : ℕ). Sofar text last k₀ out₀ (carried (r .ran .station) left) n (r .ran .made) out′) (ended-end text at l is here .1)
-      (sofar-next text last k₀ out₀ (so .ran .station) a at (so .ran .made) (l .end) out (h .goes on .2) (callIn (carried (so .ran .station) a) (take (l .end - at) (drop at text))) (record { station = r .ran .station; end = r .ran .made }) left out′ (h .goes on .1) (line-end text at l is) (ended-end text at l is here .0) refl
-      (subst (λ (n : ℕ). Steps (carried (so .ran .station) a) (callIn (carried (so .ran .station) a) (take (l .end - n) (drop n text))) (so .ran .made) out (record { station = r .ran .station; end = r .ran .made }) left out′) starts (went .ended here .0)))
+      subst⁻¹ (λ (n : ℕ). Sofar text last k₀ out₀ (carried (r .ran .footing) left) n (r .ran .made) out′) (ended-end text at l is here .1)
+      (sofar-next text last k₀ out₀ (so .ran .footing) a at (so .ran .made) (l .end) out (h .goes on .2) (commandIn (carried (so .ran .footing) a) (take (l .end - at) (drop at text))) (record { footing = r .ran .footing; end = r .ran .made }) left out′ (h .goes on .1) (line-end text at l is) (ended-end text at l is here .0) refl
+      (subst (λ (n : ℕ). Steps (carried (so .ran .footing) a) (commandIn (carried (so .ran .footing) a) (take (l .end - n) (drop n text))) (so .ran .made) out (record { footing = r .ran .footing; end = r .ran .made }) left out′) starts (went .ended here .0)))
 
   next-ended : l .ended ≡ true → Holds text last k₀ out₀ left out′ (l .behind) r
   next-ended here = record {
@@ -103,8 +103,8 @@ module _ (text : List ℕ) (last : Bool) (k₀ : Carried) (out₀ : List ℕ) (a
     long = same ∙ h .long;
     goes = λ e. (went .ended here .1, room-yes (length out₀) (r .ran .made) (ap (λ (n : ℕ). roomFor n (r .ran .made)) (sym (h .long)) ∙ sym (went .ended here .2) ∙ e), so-far here);
     done = λ e.
-        subst⁻¹ (λ (n : ℕ). Runs (runRule k₀ text last (length out₀)) out₀ (record { station = r .ran .station; taken = n; made = r .ran .made }) left out′) (went .ended here .1)
-        (sofar-full text last k₀ out₀ (r .ran .station) left (l .behind) (r .ran .made) 0 out′ (so-far here)
+        subst⁻¹ (λ (n : ℕ). Yields (runRule k₀ text last (length out₀)) out₀ (record { footing = r .ran .footing; taken = n; made = r .ran .made }) left out′) (went .ended here .1)
+        (sofar-full text last k₀ out₀ (r .ran .footing) left (l .behind) (r .ran .made) 0 out′ (so-far here)
         (room-no (length out₀) (r .ran .made) (ap (λ (n : ℕ). roomFor n (r .ran .made)) (sym (h .long)) ∙ sym (went .ended here .2) ∙ e)));
   }
 
@@ -115,9 +115,9 @@ module _ (text : List ℕ) (last : Bool) (k₀ : Carried) (out₀ : List ℕ) (a
     long = same ∙ h .long;
     goes = λ e. absurd (true≢false (sym e ∙ went .unended past .2));
     done = λ _.
-        subst⁻¹ (λ (x : Areas). Runs (runRule k₀ text last (length out₀)) out₀ (r .ran) x out′) (went .unended past .1)
-        (sofar-rest text last k₀ out₀ (so .ran .station) a at (so .ran .made) (l .end) out (h .goes on .2) (r .ran) out′ (h .goes on .1) place (line-end text at l is) (unended-end text at l is past .0)
-        (subst (λ (n : ℕ). Rests (so .ran .station) n (l .end - n) last (so .ran .made) out (r .ran) out′) starts (went .unended past .0)));
+        subst⁻¹ (λ (x : Areas). Yields (runRule k₀ text last (length out₀)) out₀ (r .ran) x out′) (went .unended past .1)
+        (sofar-rest text last k₀ out₀ (so .ran .footing) a at (so .ran .made) (l .end) out (h .goes on .2) (r .ran) out′ (h .goes on .1) place (line-end text at l is) (unended-end text at l is past .0)
+        (subst (λ (n : ℕ). Rests (so .ran .footing) n (l .end - n) last (so .ran .made) out (r .ran) out′) starts (went .unended past .0)));
   }
 
   -- one line more

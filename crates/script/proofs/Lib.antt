@@ -1,6 +1,6 @@
 pub mod Rests
 pub mod Steps
-pub mod Runs
+pub mod Portions
 pub mod Goings
 pub mod Promises
 pub mod Again

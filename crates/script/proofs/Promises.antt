@@ -29,14 +29,15 @@ use Rattle.sweeping.specs.Sweeping.{sweepRefusal, sweepRule}
 use Rattle.sweeping.proofs.Promises.{sweep-refused-leaves}
 use Rattle.line.specs.declared.Verb.{Verb}
 use Rattle.line.specs.declared.Verb.the-variants.{Format, Open, Seal, Begin, Next, Insert, Update, Delete, Read, Commit, Withdraw, Sweep, IllFormed}
-use Rattle.line.specs.declared.Call.{Call}
-use Rattle.line.specs.Line.{callOf, callIn as saidIn, ill, fields, longest as longestLine}
+use Rattle.line.specs.declared.Command.{Command}
+use Rattle.line.specs.Line.{commandOf, commandIn as saidIn, ill, fields, longest as longestLine}
 use Rattle.reply.specs.Reply.{longest as longestAnswer}
-use Rattle.playing.specs.Playing.{Turn, lineOf, formatTurn, openTurn, sealTurn, beginTurn, nextTurn, insertTurn, updateTurn, deleteTurn, readTurn, commitTurn, withdrawTurn, sweepTurn, illTurn, turnOf, playRule}
+use Rattle.calls.specs.Calls.{Left}
+use Rattle.playing.specs.Playing.{lineOf, playedBy, playRule}
 use Rattle.playing.proofs.Lengths.{answer-most}
-use Rattle.script.specs.declared.Station.{Station}
-use Rattle.script.specs.Script.{lent, isFormat, dataLent, undoLent, Carried, carried, turnIn, stepped, callIn, sixteen, answers, output, Run, ran, inLine, lined, restOf, rested, full, runLines, runRule, lentTo}
-use Rattle.script.proofs.Runs.{full-no, run-full, run-next, run-last}
+use Rattle.script.specs.declared.Footing.{Footing}
+use Rattle.script.specs.Script.{lent, isFormat, dataLent, undoLent, Carried, carried, leftIn, lineIn, stepped, commandIn, sixteen, answers, output, Portion, portion, inLine, lined, restOf, rested, full, runLines, runRule, lentTo}
+use Rattle.script.proofs.Portions.{full-no, run-full, run-next, run-last}
 
 true-false : (t : Bool) → t ≡ true → t ≡ false → ⊥
 true-false t p q = let z : _≡_ {A = ℕ} 0 1 = cc in omega arith
@@ -45,56 +46,56 @@ true-false t p q = let z : _≡_ {A = ℕ} 0 1 = cc in omega arith
 
 -- a line that has ended
 pub answers-next : (k : Carried) (l : List ℕ) (b : ℕ) (s : List ℕ)
-    → answers k (l ∷ parts b s) ≡ lineOf (turnIn k (callIn k l)) ++ answers (stepped k (callIn k l)) (parts b s)
+    → answers k (l ∷ parts b s) ≡ lineIn k (commandIn k l) ++ answers (stepped k (commandIn k l)) (parts b s)
 unfolding answers
 answers-next k l b s =
     ap (λ (ps : List (List ℕ)). answers k (l ∷ ps)) (parts-cut b s)
-    ∙ ap (λ (ps : List (List ℕ)). lineOf (turnIn k (callIn k l)) ++ answers (stepped k (callIn k l)) ps) (sym (parts-cut b s))
+    ∙ ap (λ (ps : List (List ℕ)). lineIn k (commandIn k l) ++ answers (stepped k (commandIn k l)) ps) (sym (parts-cut b s))
 
 output-next : (k : Carried) (s more : List ℕ) → length (before 10 s) < length s
     → output k (s ++ more)
-    ≡ lineOf (turnIn k (callIn k (before 10 s))) ++ output (stepped k (callIn k (before 10 s))) (drop (length (before 10 s) + 1) s ++ more)
+    ≡ lineIn k (commandIn k (before 10 s)) ++ output (stepped k (commandIn k (before 10 s))) (drop (length (before 10 s) + 1) s ++ more)
 output-next k s more h =
     ap (answers k) (parts-ended-append 10 s more h) ∙ answers-next k (before 10 s) 10 (drop (length (before 10 s) + 1) s ++ more)
 
 -- in a line that has been found too long
 abbrev tooLong : Carried → Carried
-tooLong k = carried (inLine true (k .station)) (k .lent)
+tooLong k = carried (inLine true (k .footing)) (k .lent)
 
 -- whatever comes behind more than 128 bytes, they say no call
-call-long : (k : Carried) (l : List ℕ) → longestLine < length l → callIn k l ≡ ill
-unfolding callOf
-call-long k l h = by (k .station .long)
+command-long : (k : Carried) (l : List ℕ) → longestLine < length l → commandIn k l ≡ ill
+unfolding commandOf
+command-long k l h = by (k .footing .long)
   where
-    none : callOf l ≡ ill
+    none : commandOf l ≡ ill
     none = ap (λ (t : Bool). cond t ill (saidIn (fields l))) (lt-ltb longestLine (length l) h)
 
-    by : (b : Bool) → cond b ill (callOf l) ≡ ill
+    by : (b : Bool) → cond b ill (commandOf l) ≡ ill
     by true = refl
     by false = none
 
 -- so that it makes no difference whether they are kept or noted as too long
-turn-long : (k : Carried) → turnIn k ill ≡ turnIn (tooLong k) ill
-unfolding turnIn dataLent undoLent
-turn-long k = refl
+left-long : (k : Carried) → leftIn k ill ≡ leftIn (tooLong k) ill
+unfolding leftIn dataLent undoLent
+left-long k = refl
 
 step-long : (k : Carried) → stepped k ill ≡ stepped (tooLong k) ill
-unfolding stepped turnIn dataLent undoLent
+unfolding stepped leftIn dataLent undoLent
 step-long k = refl
 
 answers-long : (k : Carried) (s l : List ℕ) (ls : List (List ℕ)) → longestLine < length s
     → answers k ((s ++ l) ∷ ls) ≡ answers (tooLong k) (l ∷ ls)
 unfolding answers
 answers-long k s l [] h =
-    ap (λ (t : Bool). cond (t && not (k .station .long)) [] sixteen) (ne-eqb (length (s ++ l)) 0 some)
+    ap (λ (t : Bool). cond (t && not (k .footing .long)) [] sixteen) (ne-eqb (length (s ++ l)) 0 some)
     ∙ ap (λ (t : Bool). cond t [] sixteen) (sym (and-false (eqb (length l) 0)))
   where
     some : length (s ++ l) ≡ 0 → ⊥
     some e = omega (arith, h, e, length-append s l)
 answers-long k s l (m ∷ ls) h =
-    ap (λ (c : Call). lineOf (turnIn k c) ++ answers (stepped k c) (m ∷ ls)) (call-long k (s ++ l) (omega (arith, h, length-append s l)))
-    ∙ ap (λ (t : Turn). lineOf t ++ answers (stepped k ill) (m ∷ ls)) (turn-long k)
-    ∙ ap (λ (q : Carried). lineOf (turnIn (tooLong k) ill) ++ answers q (m ∷ ls)) (step-long k)
+    ap (λ (c : Command). lineIn k c ++ answers (stepped k c) (m ∷ ls)) (command-long k (s ++ l) (omega (arith, h, length-append s l)))
+    ∙ ap (λ (l : Left). lineOf IllFormed l ++ answers (stepped k ill) (m ∷ ls)) (left-long k)
+    ∙ ap (λ (q : Carried). lineIn (tooLong k) ill ++ answers q (m ∷ ls)) (step-long k)
 
 output-long : (k : Carried) (s more : List ℕ) → lacks 10 s ≡ true → longestLine < length s → output k (s ++ more) ≡ output (tooLong k) more
 output-long k s more lone h =
@@ -105,11 +106,11 @@ output-long k s more lone h =
 -- ---- what stands behind the last newline
 
 -- where so much is said of it, taken and carried on, the output is what is said and what comes of the rest
-abbrev Rest : Carried → List ℕ → List ℕ → List ℕ × ℕ × Station → Type 0
+abbrev Rest : Carried → List ℕ → List ℕ → List ℕ × ℕ × Footing → Type 0
 Rest k s more w = output k (s ++ more) ≡ w .0 ++ output (carried (w .2) (k .lent)) (drop (w .1) s ++ more)
 
 abbrev Rested : Bool → List ℕ → Type 0
-Rested last more = (k : Carried) (s : List ℕ) → length (before 10 s) ≡ length s → Rest k s more (restOf last (k .station) (length s))
+Rested last more = (k : Carried) (s : List ℕ) → length (before 10 s) ≡ length s → Rest k s more (restOf last (k .footing) (length s))
 
 -- it lacks a newline
 lacks-rest : (s : List ℕ) → length (before 10 s) ≡ length s → lacks 10 s ≡ true
@@ -121,7 +122,7 @@ unfolding restOf
 rest-more more k s e = by (leb (length s) longestLine) refl
   where
     by : (t : Bool) → leb (length s) longestLine ≡ t
-        → Rest k s more (cond t ([], 0, k .station) ([], length s, inLine true (k .station)))
+        → Rest k s more (cond t ([], 0, k .footing) ([], length s, inLine true (k .footing)))
     by true h = refl
     by false h =
         output-long k s more (lacks-rest s e) (leb-false (length s) longestLine h)
@@ -130,21 +131,21 @@ rest-more more k s e = by (leb (length s) longestLine) refl
 -- no more comes: it is an unended line, or there is none
 rest-end : Rested true []
 unfolding restOf answers parts
-rest-end k s e = by (eqb (length s) 0 && not (k .station .long)) refl
+rest-end k s e = by (eqb (length s) 0 && not (k .footing .long)) refl
   where
-    by : (t : Bool) → (eqb (length s) 0 && not (k .station .long)) ≡ t
-        → Rest k s [] (cond t ([], 0, k .station) (sixteen, length s, inLine false (k .station)))
+    by : (t : Bool) → (eqb (length s) 0 && not (k .footing .long)) ≡ t
+        → Rest k s [] (cond t ([], 0, k .footing) (sixteen, length s, inLine false (k .footing)))
     by true h = refl
     by false h =
         ap (output k) (append-nil s)
         ∙ ap (answers k) (parts-last 10 s e)
         ∙ ap (λ (t : Bool). cond t [] sixteen) h
         ∙ sym (append-nil sixteen)
-        ∙ ap (λ (l : List ℕ). sixteen ++ output (carried (inLine false (k .station)) (k .lent)) (l ++ [])) (sym (drop-length s))
+        ∙ ap (λ (l : List ℕ). sixteen ++ output (carried (inLine false (k .footing)) (k .lent)) (l ++ [])) (sym (drop-length s))
 
 -- ---- a run says the front of the output, and carries on so that the rest comes out
 
-forward : (room : ℕ) (last : Bool) (r : Run) (ls : List (List ℕ)) → r .taken ≤ runLines room last r ls .taken
+forward : (room : ℕ) (last : Bool) (r : Portion) (ls : List (List ℕ)) → r .taken ≤ runLines room last r ls .taken
 unfolding runLines rested lined
 forward room last r [] = omega arith
 forward room last r (l ∷ []) = by (full room r)
@@ -160,55 +161,55 @@ forward room last r (l ∷ m ∷ ls) = by (full room r) (forward room last (line
     by false h = omega (arith, h)
 
 module _ (room : ℕ) (last : Bool) (more : List ℕ) (rests : Rested last more) where
-  abbrev Goes : Run → Run → List ℕ → Type 0
+  abbrev Goes : Portion → Portion → List ℕ → Type 0
   Goes r w s = r .said ++ output (r .on) (s ++ more) ≡ w .said ++ output (w .on) (drop (w .taken - r .taken) s ++ more)
 
-  goes-full : (r : Run) (s : List ℕ) → full room r ≡ true → Goes r (runLines room last r (parts 10 s)) s
+  goes-full : (r : Portion) (s : List ℕ) → full room r ≡ true → Goes r (runLines room last r (parts 10 s)) s
   goes-full r s e =
-      subst⁻¹ (λ (w : Run). Goes r w s) (run-full room last r (parts 10 s) e)
+      subst⁻¹ (λ (w : Portion). Goes r w s) (run-full room last r (parts 10 s) e)
       (ap (λ (n : ℕ). r .said ++ output (r .on) (drop n s ++ more)) (sym (none (r .taken))))
     where
       none : (n : ℕ) → n - n ≡ 0
       none n = omega arith
 
-  goes-last : (r : Run) (s : List ℕ) → full room r ≡ false → length (before 10 s) ≡ length s → Goes r (runLines room last r (parts 10 s)) s
+  goes-last : (r : Portion) (s : List ℕ) → full room r ≡ false → length (before 10 s) ≡ length s → Goes r (runLines room last r (parts 10 s)) s
   unfolding rested
   goes-last r s e h =
-      subst⁻¹ (λ (w : Run). Goes r w s) (ap (runLines room last r) (parts-last 10 s h) ∙ run-last room last r s e)
+      subst⁻¹ (λ (w : Portion). Goes r w s) (ap (runLines room last r) (parts-last 10 s h) ∙ run-last room last r s e)
       (ap (λ (l : List ℕ). r .said ++ l) (rests (r .on) s h)
       ∙ sym (append-assoc (r .said) (w .0) (output (carried (w .2) (r .on .lent)) (drop (w .1) s ++ more)))
       ∙ ap (λ (n : ℕ). (r .said ++ w .0) ++ output (carried (w .2) (r .on .lent)) (drop n s ++ more)) (sym (less (r .taken) (w .1))))
     where
-      w : List ℕ × ℕ × Station
-      w = restOf last (r .on .station) (length s)
+      w : List ℕ × ℕ × Footing
+      w = restOf last (r .on .footing) (length s)
 
       less : (n m : ℕ) → n + m - n ≡ m
       less n m = omega arith
 
-  goes-next : (r : Run) (s : List ℕ) → full room r ≡ false → length (before 10 s) < length s
+  goes-next : (r : Portion) (s : List ℕ) → full room r ≡ false → length (before 10 s) < length s
       → Goes (lined r (before 10 s)) (runLines room last (lined r (before 10 s)) (parts 10 (drop (length (before 10 s) + 1) s))) (drop (length (before 10 s) + 1) s)
       → Goes r (runLines room last r (parts 10 s)) s
   unfolding lined
   goes-next r s e h ih =
-      subst⁻¹ (λ (w : Run). Goes r w s)
+      subst⁻¹ (λ (w : Portion). Goes r w s)
       (ap (runLines room last r) (parts-ended 10 s h) ∙ run-next room last r (before 10 s) 10 (drop (length (before 10 s) + 1) s) e)
       (ap (λ (l : List ℕ). r .said ++ l) (output-next (r .on) s more h)
-      ∙ sym (append-assoc (r .said) (lineOf (turnIn (r .on) c)) (output (stepped (r .on) c) (drop (length (before 10 s) + 1) s ++ more)))
+      ∙ sym (append-assoc (r .said) (lineIn (r .on) c) (output (stepped (r .on) c) (drop (length (before 10 s) + 1) s ++ more)))
       ∙ ih
       ∙ ap (λ (l : List ℕ). w .said ++ output (w .on) (l ++ more)) (drop-drop (w .taken - (r .taken + length (before 10 s) + 1)) (length (before 10 s) + 1) s)
       ∙ ap (λ (n : ℕ). w .said ++ output (w .on) (drop n s ++ more)) (place (forward room last (lined r (before 10 s)) (parts 10 (drop (length (before 10 s) + 1) s)))))
     where
-      c : Call
-      c = callIn (r .on) (before 10 s)
+      c : Command
+      c = commandIn (r .on) (before 10 s)
 
-      w : Run
+      w : Portion
       w = runLines room last (lined r (before 10 s)) (parts 10 (drop (length (before 10 s) + 1) s))
 
       place : r .taken + length (before 10 s) + 1 ≤ w .taken
           → length (before 10 s) + 1 + (w .taken - (r .taken + length (before 10 s) + 1)) ≡ w .taken - r .taken
       place on = omega (arith, on)
 
-  goes : (n : ℕ) (r : Run) (s : List ℕ) → length s < n → Goes r (runLines room last r (parts 10 s)) s
+  goes : (n : ℕ) (r : Portion) (s : List ℕ) → length s < n → Goes r (runLines room last r (parts 10 s)) s
   goes zero r s h = absurd (omega (arith, h))
   goes (suc n) r s h = by (full room r) refl (goes n (lined r (before 10 s)) (drop (length (before 10 s) + 1) s))
     where
@@ -229,11 +230,11 @@ module _ (room : ℕ) (last : Bool) (more : List ℕ) (rests : Rested last more)
       ≡ runRule k text last room .said ++ output (runRule k text last room .on) (drop (runRule k text last room .taken) text ++ more)
   unfolding runRule
   goes-all k text =
-      goes (suc (length text)) (ran [] 0 k) text (omega arith)
+      goes (suc (length text)) (portion [] 0 k) text (omega arith)
       ∙ ap (λ (n : ℕ). w .said ++ output (w .on) (drop n text ++ more)) (all (w .taken))
     where
-      w : Run
-      w = runLines room last (ran [] 0 k) (parts 10 text)
+      w : Portion
+      w = runLines room last (portion [] 0 k) (parts 10 text)
 
       all : (n : ℕ) → n - 0 ≡ n
       all n = omega arith
@@ -254,7 +255,7 @@ run-ends k text room =
     ∙ goes-all room true [] rest-end k text
     ∙ ap (λ (l : List ℕ). w .said ++ output (w .on) l) (append-nil (drop (w .taken) text))
   where
-    w : Run
+    w : Portion
     w = runRule k text true room
 
 -- a run goes on: where there is room for an answer and the text has a newline, some of it is done with
@@ -262,12 +263,12 @@ pub run-goes-on : (k : Carried) (text : List ℕ) (last : Bool) (room : ℕ) →
     → 1 ≤ runRule k text last room .taken
 unfolding runRule lined
 run-goes-on k text last room h some =
-    subst⁻¹ (λ (w : Run). 1 ≤ w .taken)
-    (ap (runLines room last (ran [] 0 k)) (parts-ended 10 text short) ∙ run-next room last (ran [] 0 k) (before 10 text) 10 (drop (length (before 10 text) + 1) text) free)
-    (omega (arith, forward room last (lined (ran [] 0 k) (before 10 text)) (parts 10 (drop (length (before 10 text) + 1) text))))
+    subst⁻¹ (λ (w : Portion). 1 ≤ w .taken)
+    (ap (runLines room last (portion [] 0 k)) (parts-ended 10 text short) ∙ run-next room last (portion [] 0 k) (before 10 text) 10 (drop (length (before 10 text) + 1) text) free)
+    (omega (arith, forward room last (lined (portion [] 0 k) (before 10 text)) (parts 10 (drop (length (before 10 text) + 1) text))))
   where
-    free : full room (ran [] 0 k) ≡ false
-    free = full-no room (ran [] 0 k) (omega (arith, h))
+    free : full room (portion [] 0 k) ≡ false
+    free = full-no room (portion [] 0 k) (omega (arith, h))
 
     short : length (before 10 text) < length text
     short =
@@ -283,88 +284,88 @@ pub run-goes-on-long : (k : Carried) (text : List ℕ) (last : Bool) (room : ℕ
 unfolding runRule rested restOf
 run-goes-on-long k text last room h long = by (lacks 10 text) refl
   where
-    free : full room (ran [] 0 k) ≡ false
-    free = full-no room (ran [] 0 k) (omega (arith, h))
+    free : full room (portion [] 0 k) ≡ false
+    free = full-no room (portion [] 0 k) (omega (arith, h))
 
     some : length text ≡ 0 → ⊥
     some e = omega (arith, long, e)
 
-    taken : (b : Bool) → length text ≡ restOf b (k .station) (length text) .1
+    taken : (b : Bool) → length text ≡ restOf b (k .footing) (length text) .1
     taken true = rw (ne-eqb (length text) 0 some) refl
     taken false = rw (lt-leb (length text) longestLine long) refl
 
     by : (t : Bool) → lacks 10 text ≡ t → 1 ≤ runRule k text last room .taken
     by true e =
-        subst⁻¹ (λ (w : Run). 1 ≤ w .taken)
-        (ap (runLines room last (ran [] 0 k)) (parts-alone 10 text e) ∙ run-last room last (ran [] 0 k) text free)
+        subst⁻¹ (λ (w : Portion). 1 ≤ w .taken)
+        (ap (runLines room last (portion [] 0 k)) (parts-alone 10 text e) ∙ run-last room last (portion [] 0 k) text free)
         (omega (arith, taken last, long))
     by false e = run-goes-on k text last room h e
 
 -- ---- where there is room, one run says the whole output
 
 -- the end of a text is done with to the last byte
-end-of : (s : Station) (n : ℕ) → (restOf true s n .1 ≡ n) × (restOf true s n .2 .long ≡ false)
+end-of : (s : Footing) (n : ℕ) → (restOf true s n .1 ≡ n) × (restOf true s n .2 .long ≡ false)
 unfolding restOf
 end-of s n = by (eqb n 0) (s .long) refl refl
   where
     by : (a b : Bool) → eqb n 0 ≡ a → s .long ≡ b
-        → (cond {A = List ℕ × ℕ × Station} (a && not b) ([], 0, s) (sixteen, n, inLine false s) .1 ≡ n)
-        × (cond {A = List ℕ × ℕ × Station} (a && not b) ([], 0, s) (sixteen, n, inLine false s) .2 .long ≡ false)
+        → (cond {A = List ℕ × ℕ × Footing} (a && not b) ([], 0, s) (sixteen, n, inLine false s) .1 ≡ n)
+        × (cond {A = List ℕ × ℕ × Footing} (a && not b) ([], 0, s) (sixteen, n, inLine false s) .2 .long ≡ false)
     by true false e f = (sym (eqb-true n 0 e), f)
     by true true e f = (refl, refl)
     by false b e f = (refl, refl)
 
 -- where no more text comes and a run takes nothing of it, nothing is left to say
-rest-done : (k : Carried) (text : List ℕ) → rested true (ran [] 0 k) text .taken ≡ 0
-    → output (rested true (ran [] 0 k) text .on) (drop (rested true (ran [] 0 k) text .taken) text) ≡ []
+rest-done : (k : Carried) (text : List ℕ) → rested true (portion [] 0 k) text .taken ≡ 0
+    → output (rested true (portion [] 0 k) text .on) (drop (rested true (portion [] 0 k) text .taken) text) ≡ []
 unfolding rested answers parts
 rest-done k [] none =
-    ap (λ (n : ℕ). output (rested true (ran [] 0 k) [] .on) (drop n [])) none
-    ∙ ap (λ (b : Bool). cond (not b) [] sixteen) (end-of (k .station) 0 .1)
-rest-done k (b ∷ text) none = absurd (omega (arith, none, end-of (k .station) (length (b ∷ text)) .0))
+    ap (λ (n : ℕ). output (rested true (portion [] 0 k) [] .on) (drop n [])) none
+    ∙ ap (λ (b : Bool). cond (not b) [] sixteen) (end-of (k .footing) 0 .1)
+rest-done k (b ∷ text) none = absurd (omega (arith, none, end-of (k .footing) (length (b ∷ text)) .0))
 
 pub run-done : (k : Carried) (text : List ℕ) (room : ℕ) → longestAnswer ≤ room → runRule k text true room .taken ≡ 0
     → output (runRule k text true room .on) (drop (runRule k text true room .taken) text) ≡ []
 unfolding runRule
 run-done k text room h none = by (lacks 10 text) refl
   where
-    w : Run
+    w : Portion
     w = runRule k text true room
 
     by : (t : Bool) → lacks 10 text ≡ t → output (w .on) (drop (w .taken) text) ≡ []
     by true e =
-        subst⁻¹ (λ (r : Run). output (r .on) (drop (r .taken) text) ≡ []) is
-        (rest-done k text (ap (λ (r : Run). r .taken) (sym is) ∙ none))
+        subst⁻¹ (λ (r : Portion). output (r .on) (drop (r .taken) text) ≡ []) is
+        (rest-done k text (ap (λ (r : Portion). r .taken) (sym is) ∙ none))
       where
-        is : w ≡ rested true (ran [] 0 k) text
-        is = ap (runLines room true (ran [] 0 k)) (parts-alone 10 text e) ∙ run-last room true (ran [] 0 k) text (full-no room (ran [] 0 k) (omega (arith, h)))
+        is : w ≡ rested true (portion [] 0 k) text
+        is = ap (runLines room true (portion [] 0 k)) (parts-alone 10 text e) ∙ run-last room true (portion [] 0 k) text (full-no room (portion [] 0 k) (omega (arith, h)))
     by false e = absurd (omega (arith, none, run-goes-on k text true room h e))
 
 -- no answer is longer than 88 bytes
-turn-fits : (k : Carried) (c : Call) → length (lineOf (turnIn k c)) ≤ longestAnswer
-unfolding turnIn
-turn-fits k c = answer-most (lentTo k c) (k .station .desk) c
+line-fits : (k : Carried) (c : Command) → length (lineIn k c) ≤ longestAnswer
+unfolding leftIn
+line-fits k c = answer-most (lentTo k c) (k .footing .desk) c
 
 module _ (room : ℕ) where
-  abbrev Whole : Run → Run → List ℕ → Type 0
-  Whole r w s = (w .taken ≡ r .taken + length s) × (w .on .station .long ≡ false)
+  abbrev Whole : Portion → Portion → List ℕ → Type 0
+  Whole r w s = (w .taken ≡ r .taken + length s) × (w .on .footing .long ≡ false)
 
-  whole-last : (r : Run) (s : List ℕ) → full room r ≡ false → length (before 10 s) ≡ length s → Whole r (runLines room true r (parts 10 s)) s
+  whole-last : (r : Portion) (s : List ℕ) → full room r ≡ false → length (before 10 s) ≡ length s → Whole r (runLines room true r (parts 10 s)) s
   unfolding rested
   whole-last r s e h =
-      subst⁻¹ (λ (w : Run). Whole r w s) (ap (runLines room true r) (parts-last 10 s h) ∙ run-last room true r s e)
-      (ap (λ (n : ℕ). r .taken + n) (end-of (r .on .station) (length s) .0), end-of (r .on .station) (length s) .1)
+      subst⁻¹ (λ (w : Portion). Whole r w s) (ap (runLines room true r) (parts-last 10 s h) ∙ run-last room true r s e)
+      (ap (λ (n : ℕ). r .taken + n) (end-of (r .on .footing) (length s) .0), end-of (r .on .footing) (length s) .1)
 
-  whole-next : (r : Run) (s : List ℕ) → full room r ≡ false → length (before 10 s) < length s
+  whole-next : (r : Portion) (s : List ℕ) → full room r ≡ false → length (before 10 s) < length s
       → Whole (lined r (before 10 s)) (runLines room true (lined r (before 10 s)) (parts 10 (drop (length (before 10 s) + 1) s))) (drop (length (before 10 s) + 1) s)
       → Whole r (runLines room true r (parts 10 s)) s
   unfolding lined
   whole-next r s e h ih =
-      subst⁻¹ (λ (w : Run). Whole r w s)
+      subst⁻¹ (λ (w : Portion). Whole r w s)
       (ap (runLines room true r) (parts-ended 10 s h) ∙ run-next room true r (before 10 s) 10 (drop (length (before 10 s) + 1) s) e)
       (omega (arith, ih .0, h, length-drop (length (before 10 s) + 1) s), ih .1)
 
-  whole : (n : ℕ) (r : Run) (s : List ℕ) → length s < n → length (r .said) + longestAnswer * (length s + 1) ≤ room
+  whole : (n : ℕ) (r : Portion) (s : List ℕ) → length s < n → length (r .said) + longestAnswer * (length s + 1) ≤ room
       → Whole r (runLines room true r (parts 10 s)) s
   unfolding longestAnswer lined
   whole zero r s h enough = absurd (omega (arith, h))
@@ -383,7 +384,7 @@ module _ (room : ℕ) where
           (λ (l : length (before 10 s) < length s).
           whole-next r s free l
           (ih (omega (arith, l, h, length-drop (length (before 10 s) + 1) s))
-          (omega (arith, l, enough, length-drop (length (before 10 s) + 1) s, length-append (r .said) (lineOf (turnIn (r .on) (callIn (r .on) (before 10 s)))), turn-fits (r .on) (callIn (r .on) (before 10 s))))))
+          (omega (arith, l, enough, length-drop (length (before 10 s) + 1) s, length-append (r .said) (lineIn (r .on) (commandIn (r .on) (before 10 s))), line-fits (r .on) (commandIn (r .on) (before 10 s))))))
           (λ (l : length s ≤ length (before 10 s)). whole-last r s free (omega (arith, l, before-length 10 s)))
           (lt-or-le (length (before 10 s)) (length s))
 
@@ -400,11 +401,11 @@ module _ (room : ℕ) where
     taken,
   )
     where
-      w : Run
+      w : Portion
       w = runRule k text true room
 
-      all : (w .taken ≡ 0 + length text) × (w .on .station .long ≡ false)
-      all = whole (suc (length text)) (ran [] 0 k) text (omega arith) (omega (arith, enough))
+      all : (w .taken ≡ 0 + length text) × (w .on .footing .long ≡ false)
+      all = whole (suc (length text)) (portion [] 0 k) text (omega arith) (omega (arith, enough))
 
       taken : w .taken ≡ length text
       taken = omega (arith, all .0)
@@ -416,8 +417,8 @@ module _ (a : Areas) (d : Desk) (x y : ℕ) (body : List ℕ) where
       → (v : Verb)
       → isFormat v ≡ false
       → (v ≡ IllFormed → ⊥)
-      → (turnOf v a d x y body .code ≡ 1) × (turnOf v a d x y body .left ≡ a)
-  unfolding openTurn sealTurn beginTurn nextTurn insertTurn updateTurn deleteTurn readTurn commitTurn withdrawTurn sweepTurn openRule openRefusal sealRule sealRefusal beginRule beginRefusal nextRule nextRefusal insertRule insertRefusal updateRule updateRefusal deleteRule deleteRefusal readRule readRefusal commitRule commitRefusal withdrawRule withdrawRefusal sweepRule sweepRefusal
+      → (playedBy v a d x y body .code ≡ 1) × (playedBy v a d x y body .lent ≡ a)
+  unfolding openRule openRefusal sealRule sealRefusal beginRule beginRefusal nextRule nextRefusal insertRule insertRefusal updateRule updateRefusal deleteRule deleteRefusal readRule readRefusal commitRule commitRefusal withdrawRule withdrawRefusal sweepRule sweepRefusal
   one l Format f g = absurd (true-false true refl f)
   one l Open f g = (rw l refl, refl)
   one l Seal f g = (rw l refl, rw l refl)
@@ -433,7 +434,7 @@ module _ (a : Areas) (d : Desk) (x y : ℕ) (body : List ℕ) where
   one l IllFormed f g = absurd (g refl)
 
 -- nothing is lent where the last accepted format is none
-none-lent : (c : Call) (s : Station) (d : List ℕ) → s .«data» ≡ 0 → isFormat (c .verb) ≡ false → dataLent c s d ≡ 0
+none-lent : (c : Command) (s : Footing) (d : List ℕ) → s .«data» ≡ 0 → isFormat (c .verb) ≡ false → dataLent c s d ≡ 0
 unfolding dataLent lent
 none-lent c s d e f = rw (f, e) (by (leb 0 (length d)))
   where
@@ -442,20 +443,19 @@ none-lent c s d e f = rw (f, e) (by (leb 0 (length d)))
     by false = refl
 
 -- "Before an accepted format every well-formed call but format answers 1", and leaves what it was lent
-pub fresh-one : (k : Carried) (c : Call) → k .station .«data» ≡ 0 → isFormat (c .verb) ≡ false → (c .verb ≡ IllFormed → ⊥)
-    → (turnIn k c .code ≡ 1) × (turnIn k c .left ≡ lentTo k c)
-unfolding turnIn playRule lengthsOk lengthOk
-fresh-one k c e f g = one (lentTo k c) (k .station .desk) (c .first) (c .second) (c .body) bad (c .verb) f g
+pub fresh-one : (k : Carried) (c : Command) → k .footing .«data» ≡ 0 → isFormat (c .verb) ≡ false → (c .verb ≡ IllFormed → ⊥)
+    → (leftIn k c .code ≡ 1) × (leftIn k c .lent ≡ lentTo k c)
+unfolding leftIn playRule lengthsOk lengthOk
+fresh-one k c e f g = one (lentTo k c) (k .footing .desk) (c .first) (c .second) (c .body) bad (c .verb) f g
   where
-    nothing : dataLent c (k .station) (k .lent .«data») ≡ 0
-    nothing = none-lent c (k .station) (k .lent .«data») e f
+    nothing : dataLent c (k .footing) (k .lent .«data») ≡ 0
+    nothing = none-lent c (k .footing) (k .lent .«data») e f
 
     bad : lengthsOk (length (lentTo k c .«data»)) (length (lentTo k c .undo)) (length (lentTo k c .status)) ≡ false
     bad = ap (λ (n : ℕ). lengthsOk (length (take n (k .lent .«data»))) (length (lentTo k c .undo)) (length (lentTo k c .status))) nothing
 
 module _ (a : Areas) (d : Desk) (x y : ℕ) (body : List ℕ) where
-  leaves : (v : Verb) → (turnOf v a d x y body .code ≡ 0 → ⊥) → (turnOf v a d x y body .desk ≡ d) × (turnOf v a d x y body .left ≡ a)
-  unfolding formatTurn openTurn sealTurn beginTurn nextTurn insertTurn updateTurn deleteTurn readTurn commitTurn withdrawTurn sweepTurn illTurn
+  leaves : (v : Verb) → (playedBy v a d x y body .code ≡ 0 → ⊥) → (playedBy v a d x y body .desk ≡ d) × (playedBy v a d x y body .lent ≡ a)
   leaves Format h = (sym (kept-old (formatRule a .0 .0) (formatRule a .0 .1) d h), format-refused a h)
   leaves Open h = (sym (kept-old (openRule a .0) (openRule a .1) d h), refl)
   leaves Seal h = (refl, seal-refused a d h)
@@ -470,31 +470,31 @@ module _ (a : Areas) (d : Desk) (x y : ℕ) (body : List ℕ) where
   leaves Sweep h = (refl, sweep-refused-leaves a d x y h .2)
   leaves IllFormed h = (refl, refl)
 
-turn-leaves : (k : Carried) (c : Call) → (turnIn k c .code ≡ 0 → ⊥) → (turnIn k c .desk ≡ k .station .desk) × (turnIn k c .left ≡ lentTo k c)
-unfolding turnIn playRule
-turn-leaves k c h = leaves (lentTo k c) (k .station .desk) (c .first) (c .second) (c .body) (c .verb) h
+left-refused : (k : Carried) (c : Command) → (leftIn k c .code ≡ 0 → ⊥) → (leftIn k c .desk ≡ k .footing .desk) × (leftIn k c .lent ≡ lentTo k c)
+unfolding leftIn playRule
+left-refused k c h = leaves (lentTo k c) (k .footing .desk) (c .first) (c .second) (c .body) (c .verb) h
 
 -- "Every refusal leaves areas and desk unchanged": of a line, too, and the lengths that the last accepted format named
-pub refused-leaves : (k : Carried) (c : Call) → (turnIn k c .code ≡ 0 → ⊥) → stepped k c ≡ carried (inLine false (k .station)) (k .lent)
+pub refused-leaves : (k : Carried) (c : Command) → (leftIn k c .code ≡ 0 → ⊥) → stepped k c ≡ carried (inLine false (k .footing)) (k .lent)
 unfolding stepped
 refused-leaves k c h =
-    ap (λ (b : Bool). carried (record { desk = t .desk; «data» = cond b n (k .station .«data»); undo = cond b m (k .station .undo); long = false }) (areas (t .left .«data» ++ drop n (k .lent .«data»)) (t .left .undo ++ drop m (k .lent .undo)) (t .left .status))) plain
-    ∙ ap (λ (e : Desk). carried (record { desk = e; «data» = k .station .«data»; undo = k .station .undo; long = false }) (areas (t .left .«data» ++ drop n (k .lent .«data»)) (t .left .undo ++ drop m (k .lent .undo)) (t .left .status))) (same .0)
-    ∙ ap (λ (a : Areas). carried (inLine false (k .station)) (areas (a .«data» ++ drop n (k .lent .«data»)) (a .undo ++ drop m (k .lent .undo)) (a .status))) (same .1)
-    ∙ ap (λ (s : List ℕ). carried (inLine false (k .station)) (areas s (take m (k .lent .undo) ++ drop m (k .lent .undo)) (k .lent .status))) (take-append-drop n (k .lent .«data»))
-    ∙ ap (λ (s : List ℕ). carried (inLine false (k .station)) (areas (k .lent .«data») s (k .lent .status))) (take-append-drop m (k .lent .undo))
+    ap (λ (b : Bool). carried (record { desk = l .desk; «data» = cond b n (k .footing .«data»); undo = cond b m (k .footing .undo); long = false }) (areas (l .lent .«data» ++ drop n (k .lent .«data»)) (l .lent .undo ++ drop m (k .lent .undo)) (l .lent .status))) plain
+    ∙ ap (λ (e : Desk). carried (record { desk = e; «data» = k .footing .«data»; undo = k .footing .undo; long = false }) (areas (l .lent .«data» ++ drop n (k .lent .«data»)) (l .lent .undo ++ drop m (k .lent .undo)) (l .lent .status))) (same .0)
+    ∙ ap (λ (a : Areas). carried (inLine false (k .footing)) (areas (a .«data» ++ drop n (k .lent .«data»)) (a .undo ++ drop m (k .lent .undo)) (a .status))) (same .1)
+    ∙ ap (λ (s : List ℕ). carried (inLine false (k .footing)) (areas s (take m (k .lent .undo) ++ drop m (k .lent .undo)) (k .lent .status))) (take-append-drop n (k .lent .«data»))
+    ∙ ap (λ (s : List ℕ). carried (inLine false (k .footing)) (areas (k .lent .«data») s (k .lent .status))) (take-append-drop m (k .lent .undo))
   where
     n : ℕ
-    n = dataLent c (k .station) (k .lent .«data»)
+    n = dataLent c (k .footing) (k .lent .«data»)
 
     m : ℕ
-    m = undoLent c (k .station) (k .lent .undo)
+    m = undoLent c (k .footing) (k .lent .undo)
 
-    t : Turn
-    t = turnIn k c
+    l : Left
+    l = leftIn k c
 
-    plain : (isFormat (c .verb) && eqb (t .code) 0) ≡ false
-    plain = ap (λ (b : Bool). isFormat (c .verb) && b) (ne-eqb (t .code) 0 h) ∙ and-false (isFormat (c .verb))
+    plain : (isFormat (c .verb) && eqb (l .code) 0) ≡ false
+    plain = ap (λ (b : Bool). isFormat (c .verb) && b) (ne-eqb (l .code) 0 h) ∙ and-false (isFormat (c .verb))
 
-    same : (t .desk ≡ k .station .desk) × (t .left ≡ lentTo k c)
-    same = turn-leaves k c h
+    same : (l .desk ≡ k .footing .desk) × (l .lent ≡ lentTo k c)
+    same = left-refused k c h

@@ -7,18 +7,21 @@ use mathlib.Core.List.{List, [], _∷_, _++_}
 use lib.ListN.{length, take, drop}
 use lib.Seq.{sets}
 use lib.Dec.{eqb, leb, ltb}
+use Rattle.answer.specs.declared.Answer.the-variants.{IllFormed as Ill}
+use Rattle.answer.specs.Code.{codeOf}
 use Rattle.kind.specs.Kind.{pageSize}
 use Rattle.kind.specs.Areas.{Areas, areas}
 use Rattle.desk.specs.Desk.{noDesk}
 use Rattle.lines.specs.Span.{parts}
 use Rattle.line.specs.declared.Verb.{Verb}
 use Rattle.line.specs.declared.Verb.the-variants.{Format, Open, Seal, Begin, Next, Insert, Update, Delete, Read, Commit, Withdraw, Sweep, IllFormed}
-use Rattle.line.specs.declared.Call.{Call}
-use Rattle.line.specs.Line.{callOf, ill, longest as longestLine}
+use Rattle.line.specs.declared.Command.{Command}
+use Rattle.line.specs.Line.{commandOf, ill, longest as longestLine}
 use Rattle.lines.specs.declared.Line.{Line}
 use Rattle.reply.specs.Reply.{answerLine, longest as longestAnswer}
-use Rattle.playing.specs.Playing.{Turn, playRule, lineOf}
-use Rattle.script.specs.declared.Station.{Station}
+use Rattle.calls.specs.Calls.{Left}
+use Rattle.playing.specs.Playing.{playRule, lineOf}
+use Rattle.script.specs.declared.Footing.{Footing}
 use Rattle.script.specs.declared.Stepped.{Stepped}
 use Rattle.script.specs.declared.Ran.{Ran}
 use Rattle.script.specs.declared.Going.{Going}
@@ -50,70 +53,73 @@ isFormat IllFormed = false
 
 -- a format is lent what its line names, any other call what the last accepted format named; before one that is nothing, and nothing is
 -- no store: "Before an accepted format every well-formed call but format answers 1"
-unfoldable pub dataLent : Call → Station → List ℕ → ℕ
+unfoldable pub dataLent : Command → Footing → List ℕ → ℕ
 dataLent c s d = lent (cond (isFormat (c .verb)) (named (c .first)) (s .«data»)) d
 
-unfoldable pub undoLent : Call → Station → List ℕ → ℕ
+unfoldable pub undoLent : Command → Footing → List ℕ → ℕ
 undoLent c s u = lent (cond (isFormat (c .verb)) (named (c .second)) (s .undo)) u
 
 -- what is carried from one line to the next
 pub record Carried : Type 0 where
-  pub station : Station
+  pub footing : Footing
   pub lent : Areas
 
-abbrev pub carried : Station → Areas → Carried
-carried s a = record { station = s; lent = a }
+abbrev pub carried : Footing → Areas → Carried
+carried s a = record { footing = s; lent = a }
 
-abbrev pub station : Turn → Bool → ℕ → ℕ → Station → Station
-station t formats n m s =
-    record { desk = t .desk; «data» = cond (formats && eqb (t .code) 0) n (s .«data»); undo = cond (formats && eqb (t .code) 0) m (s .undo); long = false }
+abbrev pub footing : Left → Bool → ℕ → ℕ → Footing → Footing
+footing l formats n m s =
+    record { desk = l .desk; «data» = cond (formats && eqb (l .code) 0) n (s .«data»); undo = cond (formats && eqb (l .code) 0) m (s .undo); long = false }
 
 -- what a call is lent of what is carried
-abbrev pub lentTo : Carried → Call → Areas
+abbrev pub lentTo : Carried → Command → Areas
 lentTo k c =
     areas
-    (take (dataLent c (k .station) (k .lent .«data»)) (k .lent .«data»))
-    (take (undoLent c (k .station) (k .lent .undo)) (k .lent .undo))
+    (take (dataLent c (k .footing) (k .lent .«data»)) (k .lent .«data»))
+    (take (undoLent c (k .footing) (k .lent .undo)) (k .lent .undo))
     (k .lent .status)
 
--- the call on it
-unfoldable pub turnIn : Carried → Call → Turn
-turnIn k c = playRule (lentTo k c) (k .station .desk) c
+-- what the call leaves of it, and its line
+unfoldable pub leftIn : Carried → Command → Left
+leftIn k c = playRule (lentTo k c) (k .footing .desk) c
+
+abbrev pub lineIn : Carried → Command → List ℕ
+lineIn k c = lineOf (c .verb) (leftIn k c)
 
 -- and what is carried on: what was not lent is as it was
-unfoldable pub stepped : Carried → Call → Carried
+unfoldable pub stepped : Carried → Command → Carried
 stepped k c =
-    let n = dataLent c (k .station) (k .lent .«data») in
-    let m = undoLent c (k .station) (k .lent .undo) in
-    let t = turnIn k c in
+    let n = dataLent c (k .footing) (k .lent .«data») in
+    let m = undoLent c (k .footing) (k .lent .undo) in
+    let l = leftIn k c in
     carried
-    (station t (isFormat (c .verb)) n m (k .station))
-    (areas (t .left .«data» ++ drop n (k .lent .«data»)) (t .left .undo ++ drop m (k .lent .undo)) (t .left .status))
+    (footing l (isFormat (c .verb)) n m (k .footing))
+    (areas (l .lent .«data» ++ drop n (k .lent .«data»)) (l .lent .undo ++ drop m (k .lent .undo)) (l .lent .status))
 
 -- what a step leaves is that: what is carried on, and its line at a place of the buffer, inside it
-pub record Steps (k : Carried) (c : Call) (at : ℕ) (buffer : List ℕ) (r : Stepped) (left : Areas) (behind : List ℕ) : Type 0 where
-  pub carries : carried (r .station) left ≡ stepped k c
-  pub ends : r .end ≡ at + length (lineOf (turnIn k c))
-  pub writes : behind ≡ sets buffer at (lineOf (turnIn k c))
+pub record Steps (k : Carried) (c : Command) (at : ℕ) (buffer : List ℕ) (r : Stepped) (left : Areas) (behind : List ℕ) : Type 0 where
+  pub carries : carried (r .footing) left ≡ stepped k c
+  pub ends : r .end ≡ at + length (lineIn k c)
+  pub writes : behind ≡ sets buffer at (lineIn k c)
   pub within : r .end ≤ length buffer
 
 -- ---- one line
 
 -- the call of a line; none where it has been found too long
-abbrev pub callIn : Carried → List ℕ → Call
-callIn k line = cond (k .station .long) ill (callOf line)
+abbrev pub commandIn : Carried → List ℕ → Command
+commandIn k line = cond (k .footing .long) ill (commandOf line)
 
 -- "answers one 16"
 abbrev pub sixteen : List ℕ
-sixteen = answerLine 16 []
+sixteen = answerLine (codeOf Ill) []
 
 -- ---- a whole text
 
 -- The whole output, line by line. What stands behind the last newline is an unended line, unless it is empty.
 unfoldable pub answers : Carried → List (List ℕ) → List ℕ
 answers k [] = []
-answers k (l ∷ []) = cond (eqb (length l) 0 && not (k .station .long)) [] sixteen
-answers k (l ∷ m ∷ ls) = lineOf (turnIn k (callIn k l)) ++ answers (stepped k (callIn k l)) (m ∷ ls)
+answers k (l ∷ []) = cond (eqb (length l) 0 && not (k .footing .long)) [] sixteen
+answers k (l ∷ m ∷ ls) = lineIn k (commandIn k l) ++ answers (stepped k (commandIn k l)) (m ∷ ls)
 
 -- "newline after each line"
 abbrev pub output : Carried → List ℕ → List ℕ
@@ -121,60 +127,60 @@ output k text = answers k (parts 10 text)
 
 -- ---- a piece of it
 
--- how far a run came: what it said, how much of the text it is done with, what it carries on
-pub record Run : Type 0 where
+-- the portion of a text that a run is done with: what it said, how much of the text it is done with, what it carries on
+pub record Portion : Type 0 where
   pub said : List ℕ
   pub taken : ℕ
   pub on : Carried
 
-abbrev pub ran : List ℕ → ℕ → Carried → Run
-ran said n k = record { said = said; taken = n; on = k }
+abbrev pub portion : List ℕ → ℕ → Carried → Portion
+portion said n k = record { said = said; taken = n; on = k }
 
 -- the same, in a line that is too long or not
-abbrev pub inLine : Bool → Station → Station
+abbrev pub inLine : Bool → Footing → Footing
 inLine b s = record { desk = s .desk; «data» = s .«data»; undo = s .undo; long = b }
 
 -- one line more
-unfoldable pub lined : Run → List ℕ → Run
-lined r l = ran (r .said ++ lineOf (turnIn (r .on) (callIn (r .on) l))) (r .taken + length l + 1) (stepped (r .on) (callIn (r .on) l))
+unfoldable pub lined : Portion → List ℕ → Portion
+lined r l = portion (r .said ++ lineIn (r .on) (commandIn (r .on) l)) (r .taken + length l + 1) (stepped (r .on) (commandIn (r .on) l))
 
 -- what stands behind the last newline, so many bytes: where no more text comes it is an unended line, unless there is none of it; where it is
 -- too long already it is done with, and its line is known to be too long; else it waits for more. What is said, taken and carried on:
-unfoldable pub restOf : Bool → Station → ℕ → List ℕ × ℕ × Station
+unfoldable pub restOf : Bool → Footing → ℕ → List ℕ × ℕ × Footing
 restOf last s n =
     cond last
     (cond (eqb n 0 && not (s .long)) ([], 0, s) (sixteen, n, inLine false s))
     (cond (leb n longestLine) ([], 0, s) ([], n, inLine true s))
 
-unfoldable pub rested : Bool → Run → List ℕ → Run
+unfoldable pub rested : Bool → Portion → List ℕ → Portion
 rested last r l =
-    let w = restOf last (r .on .station) (length l) in
-    ran (r .said ++ w .0) (r .taken + w .1) (carried (w .2) (r .on .lent))
+    let w = restOf last (r .on .footing) (length l) in
+    portion (r .said ++ w .0) (r .taken + w .1) (carried (w .2) (r .on .lent))
 
 -- what the end of a text leaves is that
-pub record Rests (s : Station) (at n : ℕ) (last : Bool) (made : ℕ) (buffer : List ℕ) (r : Ran) (behind : List ℕ) : Type 0 where
+pub record Rests (s : Footing) (at n : ℕ) (last : Bool) (made : ℕ) (buffer : List ℕ) (r : Ran) (behind : List ℕ) : Type 0 where
   pub takes : r .taken ≡ at + restOf last s n .1
   pub makes : r .made ≡ made + length (restOf last s n .0)
-  pub carries : r .station ≡ restOf last s n .2
+  pub carries : r .footing ≡ restOf last s n .2
   pub writes : behind ≡ sets buffer made (restOf last s n .0)
 
 -- no room for one more answer
-abbrev pub full : ℕ → Run → Bool
+abbrev pub full : ℕ → Portion → Bool
 full room r = ltb room (length (r .said) + longestAnswer)
 
-unfoldable pub runLines : ℕ → Bool → Run → List (List ℕ) → Run
+unfoldable pub runLines : ℕ → Bool → Portion → List (List ℕ) → Portion
 runLines room last r [] = r
 runLines room last r (l ∷ []) = cond (full room r) r (rested last r l)
 runLines room last r (l ∷ m ∷ ls) = cond (full room r) r (runLines room last (lined r l) (m ∷ ls))
 
-unfoldable pub runRule : Carried → List ℕ → Bool → ℕ → Run
-runRule k text last room = runLines room last (ran [] 0 k) (parts 10 text)
+unfoldable pub runRule : Carried → List ℕ → Bool → ℕ → Portion
+runRule k text last room = runLines room last (portion [] 0 k) (parts 10 text)
 
--- what `run` leaves is the rule's run
-pub record Runs (w : Run) (buffer : List ℕ) (r : Ran) (left : Areas) (behind : List ℕ) : Type 0 where
+-- what `run` leaves is the rule's portion
+pub record Yields (w : Portion) (buffer : List ℕ) (r : Ran) (left : Areas) (behind : List ℕ) : Type 0 where
   pub takes : r .taken ≡ w .taken
   pub makes : r .made ≡ length (w .said)
-  pub carries : r .station ≡ w .on .station
+  pub carries : r .footing ≡ w .on .footing
   pub leaves : left ≡ w .on .lent
   pub writes : behind ≡ sets buffer 0 (w .said)
 
@@ -185,22 +191,22 @@ abbrev pub roomFor : ℕ → ℕ → Bool
 roomFor room made = leb longestAnswer (room - made)
 
 -- a run at its start
-unfoldable pub begun : Station → ℕ → Going
-begun s room = record { ran = record { station = s; taken = 0; made = 0 }; more = roomFor room 0 }
+unfoldable pub begun : Footing → ℕ → Going
+begun s room = record { ran = record { footing = s; taken = 0; made = 0 }; more = roomFor room 0 }
 
 -- what one line leaves: the call of an ended one, and the run goes on behind it while there is room; where it is unended, what is left of the
 -- text, and the run is done
 pub record Goes (k : Carried) (text : List ℕ) (l : Line) (last : Bool) (made : ℕ) (buffer : List ℕ) (r : Going) (left : Areas) (behind : List ℕ) : Type 0 where
   pub inside : (r .ran .taken ≤ length text) × (r .ran .made ≤ length buffer)
   pub ended : l .ended ≡ true
-      → Steps k (callIn k (take (l .end - l .start) (drop (l .start) text))) made buffer (record { station = r .ran .station; end = r .ran .made }) left behind
+      → Steps k (commandIn k (take (l .end - l .start) (drop (l .start) text))) made buffer (record { footing = r .ran .footing; end = r .ran .made }) left behind
       × (r .ran .taken ≡ l .behind)
       × (r .more ≡ roomFor (length buffer) (r .ran .made))
   pub unended : l .ended ≡ false
-      → Rests (k .station) (l .start) (l .end - l .start) last made buffer (r .ran) behind
+      → Rests (k .footing) (l .start) (l .end - l .start) last made buffer (r .ran) behind
       × (left ≡ k .lent)
       × (r .more ≡ false)
 
 -- "Before an accepted format": nothing is lent, and the desk is none
-unfoldable pub freshStation : Station
-freshStation = record { desk = noDesk; «data» = 0; undo = 0; long = false }
+unfoldable pub freshFooting : Footing
+freshFooting = record { desk = noDesk; «data» = 0; undo = 0; long = false }

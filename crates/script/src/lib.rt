@@ -1,8 +1,9 @@
 // A script run on lent areas ("01, The script and one whole run"): text in, answers out. A text may come in pieces; what one piece
 // leaves, the next goes on from.
+use answer::Answer;
 use desk::Desk;
 use kind::Kind;
-use line::Call;
+use line::Command;
 use line::Verb;
 use lines::Line;
 ghost use mathlib.Core.Path.{_≡_};
@@ -10,14 +11,14 @@ ghost use mathlib.Core.Bool.{cond};
 ghost use Prim.Native.Nat.{_+_, _-_, _≤_};
 ghost use lib.ListN.{length, take, drop};
 ghost use Rattle.kind.specs.Areas.{areas};
-ghost use Rattle.line.specs.Line.{callOf, ill};
+ghost use Rattle.line.specs.Line.{commandOf, ill};
 ghost use Rattle.reply.specs.Reply.{longest};
 ghost use Rattle.lines.specs.Lines.{lineAt};
-ghost use Rattle.script.specs.Script.{named as named·spec, lent as lent·spec, isFormat, carried, Steps, freshStation, inLine, Rests, Runs, runRule, roomFor, begun, Goes};
+ghost use Rattle.script.specs.Script.{named as named·spec, lent as lent·spec, isFormat, carried, Steps, freshFooting, inLine, Rests, Yields, runRule, roomFor, begun, Goes};
 
 // What a script carries along beside its areas: the desk, how many bytes of the data and of the undo area the last accepted format
 // named, and whether the line it is in has been found too long.
-pub struct Station {
+pub struct Footing {
     pub desk: Desk,
     pub data: usize,
     pub undo: usize,
@@ -26,7 +27,7 @@ pub struct Station {
 
 // How far a run came: what it carries along, the bytes of text it is done with, the bytes of answers it wrote.
 pub struct Ran {
-    pub station: Station,
+    pub footing: Footing,
     pub taken: usize,
     pub made: usize,
 }
@@ -39,16 +40,16 @@ struct Going {
 
 // What a line leaves beside the areas: what is carried along, and where its answer ends.
 struct Stepped {
-    station: Station,
+    footing: Footing,
     end: usize,
 }
 
-impl Station {
+impl Footing {
     // "Before an accepted format": nothing lent, a desk that is no desk.
-    pub fn fresh() -> Station
-        ensures { λ r. ⌜ r ≡ freshStation ⌝ }
+    pub fn fresh() -> Footing
+        ensures { λ r. ⌜ r ≡ freshFooting ⌝ }
     {
-        Station {
+        Footing {
             desk: Desk::fresh(0),
             data: 0,
             undo: 0,
@@ -57,11 +58,11 @@ impl Station {
     }
 
     // The same, in a line that is too long or not.
-    fn in_line(self, long: bool) -> Station
+    fn in_line(self, long: bool) -> Footing
         ensures { λ r. ⌜ r ≡ inLine long self ⌝ }
     {
         let desk = self.desk;
-        Station {
+        Footing {
             desk,
             data: self.data,
             undo: self.undo,
@@ -122,27 +123,35 @@ fn step(
     data: &mut [u8],
     undo: &mut [u8],
     status: &mut [u8],
-    station: Station,
-    call: Call,
+    footing: Footing,
+    command: Command,
     out: &mut [u8],
     at: usize,
 ) -> Stepped
     requires { ⌜ at + longest ≤ length (now out) ⌝ }
-    ensures { λ r. ⌜ Steps (carried station (areas (now («data» .entry)) (now (undo .entry)) (now (status .entry)))) call at (now (out .entry)) r (areas (now («data» .exit)) (now (undo .exit)) (now (status .exit))) (now (out .exit)) ⌝ }
+    ensures { λ r. ⌜ Steps (carried footing (areas (now («data» .entry)) (now (undo .entry)) (now (status .entry)))) command at (now (out .entry)) r (areas (now («data» .exit)) (now (undo .exit)) (now (status .exit))) (now (out .exit)) ⌝ }
 {
-    let verb = call.verb;
-    let desk = station.desk;
+    let verb = command.verb;
+    let desk = footing.desk;
     let formats = is_format(verb);
-    let n = lent(either(formats, named(call.first), station.data), data);
-    let m = lent(either(formats, named(call.second), station.undo), undo);
-    let p = playing::play(&mut data[..n], &mut undo[..m], status, desk, call, out, at);
+    let n = lent(either(formats, named(command.first), footing.data), data);
+    let m = lent(either(formats, named(command.second), footing.undo), undo);
+    let p = playing::play(
+        &mut data[..n],
+        &mut undo[..m],
+        status,
+        desk,
+        command,
+        out,
+        at,
+    );
     let left = p.desk;
     let accepted = formats & (p.code == 0);
     Stepped {
-        station: Station {
+        footing: Footing {
             desk: left,
-            data: either(accepted, n, station.data),
-            undo: either(accepted, m, station.undo),
+            data: either(accepted, n, footing.data),
+            undo: either(accepted, m, footing.undo),
             long: false,
         },
         end: p.end,
@@ -150,35 +159,36 @@ fn step(
 }
 
 // The call of a line, which is none where the line has been found too long.
-fn call_in(text: &[u8], at: usize, end: usize, long: bool) -> Call
+fn command_in(text: &[u8], at: usize, end: usize, long: bool) -> Command
     requires { ⌜ (at ≤ end) × (end ≤ length (now text)) ⌝ }
-    ensures { λ r. ⌜ r ≡ cond long ill (callOf (take (end - at) (drop at (now (text .entry))))) ⌝ }
+    ensures { λ r. ⌜ r ≡ cond long ill (commandOf (take (end - at) (drop at (now (text .entry))))) ⌝ }
 {
     if long {
         return line::ill_formed();
     }
-    line::read_call(&text[at..end])
+    line::read_command(&text[at..end])
 }
 
 // What is left of a text behind its last newline, from `at` to `end`. Where no more comes it is an unended line; where it is too long
 // already it is done with, and the line it begins is noted as too long; else it waits for what comes.
-fn rest(station: Station, at: usize, end: usize, last: bool, out: &mut [u8], made: usize) -> Ran
+fn rest(footing: Footing, at: usize, end: usize, last: bool, out: &mut [u8], made: usize) -> Ran
     requires { ⌜ (at ≤ end) × (made + longest ≤ length (now out)) ⌝ }
     ensures inside { λ r. ⌜ (r .taken ≤ end) × (r .made ≤ length (now (out .entry))) ⌝ }
-    ensures rests { λ r. ⌜ Rests station at (end - at) last made (now (out .entry)) r (now (out .exit)) ⌝ }
+    ensures rests { λ r. ⌜ Rests footing at (end - at) last made (now (out .entry)) r (now (out .exit)) ⌝ }
 {
     let waits = Ran {
-        station,
+        footing,
         taken: at,
         made,
     };
     if last {
-        if (at == end) & !station.long {
+        if (at == end) & !footing.long {
             return waits;
         }
-        let made = reply::plain(out, made, playing::ILL_FORMED);
+        let code = answer::code(Answer::IllFormed);
+        let made = reply::plain(out, made, code);
         return Ran {
-            station: station.in_line(false),
+            footing: footing.in_line(false),
             taken: end,
             made,
         };
@@ -187,7 +197,7 @@ fn rest(station: Station, at: usize, end: usize, last: bool, out: &mut [u8], mad
         return waits;
     }
     Ran {
-        station: station.in_line(true),
+        footing: footing.in_line(true),
         taken: end,
         made,
     }
@@ -202,12 +212,12 @@ fn room_for(room: usize, made: usize) -> bool
 }
 
 // A run at its start: nothing is done with, nothing written.
-fn begins(station: Station, room: usize) -> Going
-    ensures { λ r. ⌜ r ≡ begun station room ⌝ }
+fn begins(footing: Footing, room: usize) -> Going
+    ensures { λ r. ⌜ r ≡ begun footing room ⌝ }
 {
     Going {
         ran: Ran {
-            station,
+            footing,
             taken: 0,
             made: 0,
         },
@@ -227,18 +237,18 @@ fn goes_on(
     out: &mut [u8],
 ) -> Going
     requires { ⌜ (line ≡ lineAt (now text) (so .ran .taken)) × (so .ran .taken ≤ length (now text)) × (so .ran .made + longest ≤ length (now out)) ⌝ }
-    ensures { λ r. ⌜ Goes (carried (so .ran .station) (areas (now («data» .entry)) (now (undo .entry)) (now (status .entry)))) (now (text .entry)) line last (so .ran .made) (now (out .entry)) r (areas (now («data» .exit)) (now (undo .exit)) (now (status .exit))) (now (out .exit)) ⌝ }
+    ensures { λ r. ⌜ Goes (carried (so .ran .footing) (areas (now («data» .entry)) (now (undo .entry)) (now (status .entry)))) (now (text .entry)) line last (so .ran .made) (now (out .entry)) r (areas (now («data» .exit)) (now (undo .exit)) (now (status .exit))) (now (out .exit)) ⌝ }
 {
     let ran = so.ran;
-    let station = ran.station;
+    let footing = ran.footing;
     let made = ran.made;
     if line.ended {
-        let call = call_in(text, line.start, line.end, station.long);
-        let t = step(data, undo, status, station, call, out, made);
-        let left = t.station;
+        let command = command_in(text, line.start, line.end, footing.long);
+        let t = step(data, undo, status, footing, command, out, made);
+        let left = t.footing;
         return Going {
             ran: Ran {
-                station: left,
+                footing: left,
                 taken: line.behind,
                 made: t.end,
             },
@@ -246,7 +256,7 @@ fn goes_on(
         };
     }
     Going {
-        ran: rest(station, line.start, line.end, last, out, made),
+        ran: rest(footing, line.start, line.end, last, out, made),
         more: false,
     }
 }
@@ -256,16 +266,16 @@ pub fn run(
     data: &mut [u8],
     undo: &mut [u8],
     status: &mut [u8],
-    station: Station,
+    footing: Footing,
     text: &[u8],
     last: bool,
     out: &mut [u8],
 ) -> Ran
     ensures inside { λ r. ⌜ (r .taken ≤ length (now (text .entry))) × (r .made ≤ length (now (out .entry))) ⌝ }
-    ensures runs { λ r. ⌜ Runs (runRule (carried station (areas (now («data» .entry)) (now (undo .entry)) (now (status .entry)))) (now (text .entry)) last (length (now (out .entry)))) (now (out .entry)) r (areas (now («data» .exit)) (now (undo .exit)) (now (status .exit))) (now (out .exit)) ⌝ }
+    ensures runs { λ r. ⌜ Yields (runRule (carried footing (areas (now («data» .entry)) (now (undo .entry)) (now (status .entry)))) (now (text .entry)) last (length (now (out .entry)))) (now (out .entry)) r (areas (now («data» .exit)) (now (undo .exit)) (now (status .exit))) (now (out .exit)) ⌝ }
 {
     let mut reader = lines::new(text);
-    let mut so = begins(station, out.len());
+    let mut so = begins(footing, out.len());
     while so.more {
         let read = lines::next(reader);
         reader = read.reader;

@@ -12,6 +12,7 @@ use Rattle.ground.proofs.Ranges.{and-true-left, and-true-right}
 use Rattle.little.specs.Little.{Bytes}
 use Rattle.little.proofs.AllBytes.{bytes-zeros}
 use Rattle.kind.specs.Areas.{Areas}
+use Rattle.chain.specs.Walk.{bodyOf}
 use Rattle.machine.specs.Table.{Body}
 use Rattle.machine.specs.Lines.{Call, format, isDone}
 use Rattle.history.specs.World.{World, answered, step, after, afterAll}
@@ -20,11 +21,11 @@ use Rattle.history.specs.Since.{accepted as acceptedIn, formats as formatsIn, S
 use Rattle.history.proofs.Since.{since}
 use Rattle.line.specs.declared.Verb.{Verb}
 use Rattle.line.specs.declared.Verb.the-variants.{Format, Open, Seal, Begin, Next, Insert, Update, Delete, Read, Commit, Withdraw, Sweep, IllFormed}
-use Rattle.line.specs.declared.Call.{Call as Said}
-use Rattle.line.specs.Line.{callOf, call, ill, Proper}
+use Rattle.line.specs.declared.Command.{Command}
+use Rattle.line.specs.Line.{commandOf, command, ill, Proper}
 use Rattle.line.proofs.Said.{line-proper}
-use Rattle.playing.specs.Playing.{lineOf, formatTurn, playRule}
-use Rattle.script.specs.Script.{isFormat, Carried, turnIn, stepped, callIn, answers, lentTo}
+use Rattle.playing.specs.Playing.{playRule}
+use Rattle.script.specs.Script.{isFormat, Carried, leftIn, lineIn, stepped, commandIn, answers, lentTo}
 use Rattle.scripted.specs.Scripted.{worldIn, callBy, made, afterLine, onward, saidBy, madeIn, printedAll, andThen, callsIn, historyIn, accepted, formats}
 use Rattle.scripted.proofs.Steps.{only-format, line-step}
 
@@ -38,9 +39,9 @@ first-call w (some c) cs = refl
 pub world-lines : (ls : List (List ℕ)) (k : Carried) → worldIn (onward k ls) ≡ afterAll (worldIn k) (callsIn k ls)
 world-lines [] k = refl
 world-lines (l ∷ ls) k =
-    world-lines ls (stepped k (callIn k l))
-    ∙ ap (λ (w : World). afterAll w (callsIn (stepped k (callIn k l)) ls)) (line-step k (callIn k l) .0)
-    ∙ first-call (worldIn k) (made k (callIn k l)) (callsIn (stepped k (callIn k l)) ls)
+    world-lines ls (stepped k (commandIn k l))
+    ∙ ap (λ (w : World). afterAll w (callsIn (stepped k (commandIn k l)) ls)) (line-step k (commandIn k l) .0)
+    ∙ first-call (worldIn k) (made k (commandIn k l)) (callsIn (stepped k (commandIn k l)) ls)
 
 -- ---- the output
 
@@ -48,9 +49,9 @@ world-lines (l ∷ ls) k =
 pub said-lines : (ls : List (List ℕ)) (k : Carried) → saidBy k ls ≡ printedAll (worldIn k) (madeIn k ls)
 said-lines [] k = refl
 said-lines (l ∷ ls) k =
-    ap₂ _++_ (line-step k (callIn k l) .1)
-    (said-lines ls (stepped k (callIn k l))
-    ∙ ap (λ (w : World). printedAll w (madeIn (stepped k (callIn k l)) ls)) (line-step k (callIn k l) .0))
+    ap₂ _++_ (line-step k (commandIn k l) .1)
+    (said-lines ls (stepped k (commandIn k l))
+    ∙ ap (λ (w : World). printedAll w (madeIn (stepped k (commandIn k l)) ls)) (line-step k (commandIn k l) .0))
 
 -- what the lines print stands before the rest of the output
 pub answers-behind : (ls : List (List ℕ)) (k : Carried) (m : List ℕ) (ms : List (List ℕ))
@@ -63,10 +64,10 @@ answers-behind (l ∷ ls) k m ms =
     ∙ sym (append-assoc line (saidBy on ls) (answers (onward on ls) (m ∷ ms)))
   where
     on : Carried
-    on = stepped k (callIn k l)
+    on = stepped k (commandIn k l)
 
     line : List ℕ
-    line = lineOf (turnIn k (callIn k l))
+    line = lineIn k (commandIn k l)
 
     -- it is not the last
     first : (ls : List (List ℕ)) → answers k (l ∷ (ls ++ (m ∷ ms))) ≡ line ++ answers on (ls ++ (m ∷ ms))
@@ -75,14 +76,14 @@ answers-behind (l ∷ ls) k m ms =
 
 -- ---- bodies are bytes
 
-call-bytes : (k : Carried) (l : List ℕ) → Bytes (callIn k l .body)
-call-bytes k l = by (k .station .long)
+command-bytes : (k : Carried) (l : List ℕ) → Bytes (commandIn k l .body)
+command-bytes k l = by (k .footing .long)
   where
-    said : (callOf l ≡ ill) ⊎ Proper (callOf l) → Bytes (callOf l .body)
-    said (inl e) = subst (λ (c : Said). Bytes (c .body)) (sym e) (bytes-zeros 32)
+    said : (commandOf l ≡ ill) ⊎ Proper (commandOf l) → Bytes (commandOf l .body)
+    said (inl e) = subst (λ (c : Command). Bytes (c .body)) (sym e) (bytes-zeros 32)
     said (inr p) = p .body-bytes
 
-    by : (b : Bool) → Bytes (cond b ill (callOf l) .body)
+    by : (b : Bool) → Bytes (cond b ill (commandOf l) .body)
     by true = bytes-zeros 32
     by false = said (line-proper l)
 
@@ -105,26 +106,26 @@ module _ (a : Areas) (x y : ℕ) (body : Body) (b : Bytes body) (cs : List Call)
 pub all-proper : (ls : List (List ℕ)) (k : Carried) → AllProper (callsIn k ls)
 all-proper [] k = tt
 all-proper (l ∷ ls) k =
-    let c = callIn k l in
-    proper-then (lentTo k c) (c .first) (c .second) (c .body) (call-bytes k l) (callsIn (stepped k c) ls) (all-proper ls (stepped k c)) (c .verb)
+    let c = commandIn k l in
+    proper-then (lentTo k c) (c .first) (c .second) (c .body) (command-bytes k l) (callsIn (stepped k c) ls) (all-proper ls (stepped k c)) (c .verb)
 
 -- ---- from an accepted format
 
 -- a line that is an accepted format makes one on the world behind it
 module _ (k : Carried) (cs : List Call) where
-  formats-here : (x y : ℕ) (body : Body) → turnIn k (call Format x y body) .code ≡ 0
-      → formatsIn (worldIn k) (andThen (made k (call Format x y body)) cs) ≡ true
-  unfolding step turnIn playRule formatTurn
+  formats-here : (x y : ℕ) (body : Body) → leftIn k (command Format x y body) .code ≡ 0
+      → formatsIn (worldIn k) (andThen (made k (command Format x y body)) cs) ≡ true
+  unfolding step leftIn playRule bodyOf
   formats-here x y body code =
       ap (λ (n : ℕ). isDone (answered n 0 0 []) || formatsIn (after (worldIn k) (format (a .«data») (a .undo) (a .status))) cs) code
     where
       a : Areas
-      a = lentTo k (call Format x y body)
+      a = lentTo k (command Format x y body)
 
-  formats-now : (v : Verb) (x y : ℕ) (body : Body) → isFormat v ≡ true → turnIn k (call v x y body) .code ≡ 0
-      → formatsIn (worldIn k) (andThen (made k (call v x y body)) cs) ≡ true
+  formats-now : (v : Verb) (x y : ℕ) (body : Body) → isFormat v ≡ true → leftIn k (command v x y body) .code ≡ 0
+      → formatsIn (worldIn k) (andThen (made k (command v x y body)) cs) ≡ true
   formats-now v x y body f =
-      subst (λ (v : Verb). turnIn k (call v x y body) .code ≡ 0 → formatsIn (worldIn k) (andThen (made k (call v x y body)) cs) ≡ true)
+      subst (λ (v : Verb). leftIn k (command v x y body) .code ≡ 0 → formatsIn (worldIn k) (andThen (made k (command v x y body)) cs) ≡ true)
       (sym (only-format v f)) (formats-here x y body)
 
 -- or a later one does
@@ -136,16 +137,16 @@ formats-calls : (ls : List (List ℕ)) (k : Carried) → formats k ls ≡ true �
 formats-calls [] k e = e
 formats-calls (l ∷ ls) k e = by (accepted k c) refl e (formats-calls ls (stepped k c))
   where
-    c : Said
-    c = callIn k l
+    c : Command
+    c = commandIn k l
 
     by : (b : Bool) → accepted k c ≡ b → (b || formats (stepped k c) ls) ≡ true
         → (formats (stepped k c) ls ≡ true → formatsIn (worldIn (stepped k c)) (callsIn (stepped k c) ls) ≡ true)
         → formatsIn (worldIn k) (andThen (made k c) (callsIn (stepped k c) ls)) ≡ true
     by true f e ih =
         formats-now k (callsIn (stepped k c) ls) (c .verb) (c .first) (c .second) (c .body)
-        (and-true-left (isFormat (c .verb)) (eqb (turnIn k c .code) 0) f)
-        (eqb-true (turnIn k c .code) 0 (and-true-right (isFormat (c .verb)) (eqb (turnIn k c .code) 0) f))
+        (and-true-left (isFormat (c .verb)) (eqb (leftIn k c .code) 0) f)
+        (eqb-true (leftIn k c .code) 0 (and-true-right (isFormat (c .verb)) (eqb (leftIn k c .code) 0) f))
     by false f e ih =
         formats-later (worldIn k) (made k c) (callsIn (stepped k c) ls)
         (ap (λ (w : World). formatsIn w (callsIn (stepped k c) ls)) (sym (line-step k c .0)) ∙ ih e)

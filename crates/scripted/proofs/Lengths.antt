@@ -30,8 +30,8 @@ use Rattle.sweeping.specs.Sweeping.{treated, sweptFrom, swept}
 use Rattle.upheld.proofs.Written.{length-inserted, length-deleted, length-updatedData, length-updatedUndo}
 use Rattle.machine.specs.Lines.{Call, format, opens, seal, begin, next, insert, update, delete, read, commit, withdraw, sweep, isFormat}
 use Rattle.machine.proofs.Basics.{true-false}
-use Rattle.history.specs.World.{World, Turn, after}
-use Rattle.history.proofs.Steps.{doneTurn, step-settled}
+use Rattle.history.specs.World.{World, Response, after}
+use Rattle.history.proofs.Steps.{whenDone, step-settled}
 
 -- ---- data and undo together
 
@@ -103,7 +103,7 @@ module _ (w : World) where
   abbrev u : List ℕ
   u = w .held .undo
 
-  done-stay : (c : Call) → isFormat c ≡ false → Stay (w .held) (doneTurn w c .left .held)
+  done-stay : (c : Call) → isFormat c ≡ false → Stay (w .held) (whenDone w c .left .held)
   unfolding sealed updated withdrawn swept
   done-stay (format a b s) f = true-false true refl f
   done-stay opens f = (refl, refl)
@@ -121,4 +121,4 @@ module _ (w : World) where
   done-stay (sweep first quota) f = sweptFrom-long (mark (w .desk)) (w .held .status) first (treated d first quota) (both d u)
 
   pub step-stay : (c : Call) → isFormat c ≡ false → Stay (w .held) (after w c .held)
-  step-stay c f = step-settled w c (λ (t : Turn). Stay (w .held) (t .left .held)) (λ ok. done-stay c f) (λ m e. (refl, refl))
+  step-stay c f = step-settled w c (λ (t : Response). Stay (w .held) (t .left .held)) (λ ok. done-stay c f) (λ m e. (refl, refl))

@@ -4,30 +4,29 @@ use Prim.Native.Nat.{ℕ, zero, suc, _≤_}
 use native.Mathlib.Omega.{arith}
 use mathlib.Core.Path.{_≡_, refl, sym, ap, subst, _∙_}
 use mathlib.Core.Bool.{Bool, true, false, _&&_, cond}
-use mathlib.Core.List.{List, [], _++_}
+use mathlib.Core.Option.{Option, none, some}
+use mathlib.Core.List.{List, _++_}
 use lib.ListN.{length, take, drop, length-append, length-drop}
 use lib.Seq.{length-take-le, take-append-le, take-all}
 use lib.Dec.{eqb, leb}
 use borrow.Author.Tests.{eqb-true, eqb-false, le-leb}
-use Rattle.ground.proofs.Refusals.{kept-old}
-use Rattle.ground.specs.Refuse.{settle, kept}
+use Rattle.ground.specs.Refuse.{settle}
 use Rattle.kind.specs.Areas.{Areas, areas}
 use Rattle.desk.specs.declared.Desk.{Desk}
-use Rattle.keep.specs.Keep.{formatRule, openRule}
+use Rattle.keep.specs.Keep.{formatRule}
 use Rattle.keep.proofs.Promises.{format-accepted}
-use Rattle.chain.specs.Walk.{bodyOf}
-use Rattle.rows.specs.Rows.{readRule}
+use Rattle.calls.specs.Calls.{Left, body as bodyIn, formatLeaves}
 use Rattle.machine.specs.Table.{Body}
-use Rattle.machine.specs.Lines.{Call, format, opens, seal, begin, next, insert, update, delete, read, commit, withdraw, sweep}
-use Rattle.history.specs.World.{World, world, answered, step, after}
+use Rattle.machine.specs.Lines.{Call, format, isFormat as isFormatCall}
+use Rattle.history.specs.World.{World, world, answered, leftBy, verdictOf, worldAfter, step, after}
 use Rattle.line.specs.declared.Verb.{Verb}
 use Rattle.line.specs.declared.Verb.the-variants.{Format, Open, Seal, Begin, Next, Insert, Update, Delete, Read, Commit, Withdraw, Sweep, IllFormed}
-use Rattle.line.specs.declared.Call.{Call as Said}
+use Rattle.line.specs.declared.Command.{Command}
 use Rattle.reply.specs.Reply.{answerLine}
 use Rattle.reply.proofs.Sayings.{answer-refused}
-use Rattle.playing.specs.Playing.{Turn, lineOf, formatTurn, openTurn, sealTurn, beginTurn, nextTurn, insertTurn, updateTurn, deleteTurn, readTurn, commitTurn, withdrawTurn, sweepTurn, illTurn, turnOf, playRule}
-use Rattle.line.specs.Line.{ill, call}
-use Rattle.script.specs.Script.{named, isFormat, lent, dataLent, undoLent, Carried, turnIn, stepped, lentTo}
+use Rattle.playing.specs.Playing.{playedBy, fieldsOf, lineOf, playRule}
+use Rattle.line.specs.Line.{ill, command}
+use Rattle.script.specs.Script.{named, isFormat, lent, dataLent, undoLent, Carried, leftIn, lineIn, stepped, lentTo}
 use Rattle.script.proofs.Promises.{refused-leaves}
 use Rattle.script.proofs.Steps.{lent-inside}
 use Rattle.machine.proofs.Basics.{true-false}
@@ -41,70 +40,67 @@ line-answered : (c : Call) (n a b : ℕ) (y : Body) → answerLine n (fieldsFor 
 line-answered c zero a b y = refl
 line-answered c (suc n) a b y = answer-refused (suc n) (fieldsFor c a b y) (λ e. omega (arith, e))
 
--- a format's answer goes by the areas that it is given, any other's by the world
+-- what the world of a call is where it is no format
+plain-after : (w : World) (c : Call) → isFormatCall c ≡ false → worldAfter (leftBy w c) ≡ after w c
+unfolding step
+plain-after w c f =
+    ap (λ (b : Bool). cond b (settle (leftBy w c .code) (worldAfter (leftBy w c)) (λ (n : ℕ). w)) (worldAfter (leftBy w c))) (sym f)
+
+-- ---- the call that a name says
+
 module _ (a : Areas) (d : Desk) (x y : ℕ) (body : List ℕ) where
   abbrev w : World
   w = world a d
 
-  format-line : (w′ : World) → lineOf (turnOf Format a d x y body) ≡ printed w′ (callBy Format a x y body)
-  unfolding step formatTurn
-  format-line w′ = line-answered (format (a .«data») (a .undo) (a .status)) (formatRule a .0 .0) 0 0 []
+  abbrev leaves : Verb → Left
+  leaves v = playedBy v a d x y body
 
-  turn-line : (v : Verb) → lineOf (turnOf v a d x y body) ≡ printed w (callBy v a x y body)
-  unfolding step openTurn sealTurn beginTurn nextTurn insertTurn updateTurn deleteTurn readTurn commitTurn withdrawTurn sweepTurn illTurn
-  turn-line Format = format-line w
-  turn-line Open = line-answered opens _ 0 0 []
-  turn-line Seal = line-answered seal _ 0 0 []
-  turn-line Begin = line-answered begin _ _ 0 []
-  turn-line Next = line-answered (next x) _ 0 0 []
-  turn-line Insert = line-answered (insert x body) _ _ 0 []
-  turn-line Update = line-answered (update x y body) _ 0 0 []
-  turn-line Delete = line-answered (delete x y) _ 0 0 []
-  turn-line Read =
-      let r = readRule a d x y in line-answered (read x y) (r .0) (r .2) 0 (bodyOf (r .1) (a .«data») (a .undo))
-  turn-line Commit = line-answered (commit x) _ 0 0 []
-  turn-line Withdraw = line-answered (withdraw x) _ 0 0 []
-  turn-line Sweep = line-answered (sweep x y) _ _ _ []
-  turn-line IllFormed = refl
+  -- it leaves what the history's call leaves, and its answer has the fields of that; an ill-formed line makes none
+  abbrev Makes : Verb → Option Call → Type 0
+  Makes v none = v ≡ IllFormed
+  Makes v (some c) =
+      (leaves v ≡ leftBy w c)
+      × (fieldsOf v (leaves v) ≡ fieldsFor c (leaves v .first) (leaves v .second) (bodyIn (leaves v)))
+      × (isFormatCall c ≡ isFormat v)
 
-  -- ---- what it leaves
+  makes : (v : Verb) → Makes v (callBy v a x y body)
+  makes Format = (refl, refl, refl)
+  makes Open = (refl, refl, refl)
+  makes Seal = (refl, refl, refl)
+  makes Begin = (refl, refl, refl)
+  makes Next = (refl, refl, refl)
+  makes Insert = (refl, refl, refl)
+  makes Update = (refl, refl, refl)
+  makes Delete = (refl, refl, refl)
+  makes Read = (refl, refl, refl)
+  makes Commit = (refl, refl, refl)
+  makes Withdraw = (refl, refl, refl)
+  makes Sweep = (refl, refl, refl)
+  makes IllFormed = refl
 
-  opened : (n : ℕ) (new : Desk) → world a (kept n new d) ≡ settle n (world a new) (λ (n : ℕ). w)
-  opened zero new = refl
-  opened (suc n) new = ap (world a) (sym (kept-old (suc n) new d (λ e. omega (arith, e))))
+  -- what it prints
+  made-line : (v : Verb) (o : Option Call) → Makes v o → lineOf v (leaves v) ≡ printed w o
+  unfolding step
+  made-line v none e = ap (λ (v : Verb). lineOf v (leaves v)) e
+  made-line v (some c) m =
+      ap (answerLine (leaves v .code)) (m .1)
+      ∙ line-answered c (leaves v .code) (leaves v .first) (leaves v .second) (bodyIn (leaves v))
+      ∙ ap (λ (l : Left). lineFor c (verdictOf l)) (m .0)
 
-  turn-world : (v : Verb) → isFormat v ≡ false
-      → world (turnOf v a d x y body .left) (turnOf v a d x y body .desk) ≡ afterLine w (callBy v a x y body)
-  unfolding step openTurn sealTurn beginTurn nextTurn insertTurn updateTurn deleteTurn readTurn commitTurn withdrawTurn sweepTurn illTurn
-  turn-world Format f = true-false true refl f
-  turn-world Open f = opened (openRule a .0) (openRule a .1)
-  turn-world Seal f = refl
-  turn-world Begin f = refl
-  turn-world Next f = refl
-  turn-world Insert f = refl
-  turn-world Update f = refl
-  turn-world Delete f = refl
-  turn-world Read f = refl
-  turn-world Commit f = refl
-  turn-world Withdraw f = refl
-  turn-world Sweep f = refl
-  turn-world IllFormed f = refl
+  -- a format's answer goes by the areas that it is given, any other's by the world
+  format-line : (w′ : World) → lineOf Format (leaves Format) ≡ printed w′ (callBy Format a x y body)
+  unfolding step
+  format-line w′ = made-line Format (callBy Format a x y body) (makes Format)
+
+  -- what it leaves
+  made-world : (v : Verb) (o : Option Call) → Makes v o → isFormat v ≡ false → worldAfter (leaves v) ≡ afterLine w o
+  made-world v none e f = ap (λ (v : Verb). worldAfter (leaves v)) e
+  made-world v (some c) m f = ap worldAfter (m .0) ∙ plain-after w c (m .2 ∙ f)
 
   -- as long as it was lent
-  line-stay : (v : Verb) → isFormat v ≡ false → Stay a (afterLine w (callBy v a x y body) .held)
-  line-stay Format f = true-false true refl f
-  line-stay Open f = step-stay w opens refl
-  line-stay Seal f = step-stay w seal refl
-  line-stay Begin f = step-stay w begin refl
-  line-stay Next f = step-stay w (next x) refl
-  line-stay Insert f = step-stay w (insert x body) refl
-  line-stay Update f = step-stay w (update x y body) refl
-  line-stay Delete f = step-stay w (delete x y) refl
-  line-stay Read f = step-stay w (read x y) refl
-  line-stay Commit f = step-stay w (commit x) refl
-  line-stay Withdraw f = step-stay w (withdraw x) refl
-  line-stay Sweep f = step-stay w (sweep x y) refl
-  line-stay IllFormed f = (refl, refl)
+  made-stay : (v : Verb) (o : Option Call) → Makes v o → isFormat v ≡ false → Stay a (afterLine w o .held)
+  made-stay v none e f = (refl, refl)
+  made-stay v (some c) m f = step-stay w c (m .2 ∙ f)
 
 -- ---- what is carried on from it
 
@@ -123,31 +119,31 @@ part-on h n l d e long =
     ∙ take-append-le n l (drop n d) (omega (arith, all))
     ∙ take-all n l (omega (arith, all))
 
-module _ (k : Carried) (c : Said) where
+module _ (k : Carried) (c : Command) where
   -- what it is lent of data and undo, and what it does
   abbrev dataPart : ℕ
-  dataPart = dataLent c (k .station) (k .lent .«data»)
+  dataPart = dataLent c (k .footing) (k .lent .«data»)
 
   abbrev undoPart : ℕ
-  undoPart = undoLent c (k .station) (k .lent .undo)
+  undoPart = undoLent c (k .footing) (k .lent .undo)
 
-  abbrev does : Turn
-  does = turnIn k c
+  abbrev does : Left
+  does = leftIn k c
 
   -- the world behind it is what the call left
-  world-on : Stay (lentTo k c) (does .left)
-      → lent (cond (accepted k c) dataPart (k .station .«data»)) (k .lent .«data») ≡ dataPart
-      → lent (cond (accepted k c) undoPart (k .station .undo)) (k .lent .undo) ≡ undoPart
-      → worldIn (stepped k c) ≡ world (does .left) (does .desk)
+  world-on : Stay (lentTo k c) (does .lent)
+      → lent (cond (accepted k c) dataPart (k .footing .«data»)) (k .lent .«data») ≡ dataPart
+      → lent (cond (accepted k c) undoPart (k .footing .undo)) (k .lent .undo) ≡ undoPart
+      → worldIn (stepped k c) ≡ world (does .lent) (does .desk)
   unfolding stepped dataLent undoLent
   world-on stay e f =
-      ap (λ (s : List ℕ). world (areas s (take (lent (cond (accepted k c) undoPart (k .station .undo)) left) left) (does .left .status)) (does .desk))
-      (part-on (cond (accepted k c) dataPart (k .station .«data»)) dataPart (does .left .«data») (k .lent .«data») e (stay .0))
-      ∙ ap (λ (s : List ℕ). world (areas (does .left .«data») s (does .left .status)) (does .desk))
-      (part-on (cond (accepted k c) undoPart (k .station .undo)) undoPart (does .left .undo) (k .lent .undo) f (stay .1))
+      ap (λ (s : List ℕ). world (areas s (take (lent (cond (accepted k c) undoPart (k .footing .undo)) left) left) (does .lent .status)) (does .desk))
+      (part-on (cond (accepted k c) dataPart (k .footing .«data»)) dataPart (does .lent .«data») (k .lent .«data») e (stay .0))
+      ∙ ap (λ (s : List ℕ). world (areas (does .lent .«data») s (does .lent .status)) (does .desk))
+      (part-on (cond (accepted k c) undoPart (k .footing .undo)) undoPart (does .lent .undo) (k .lent .undo) f (stay .1))
     where
       left : List ℕ
-      left = does .left .undo ++ drop undoPart (k .lent .undo)
+      left = does .lent .undo ++ drop undoPart (k .lent .undo)
 
   -- ---- a call that is no format
 
@@ -157,8 +153,8 @@ module _ (k : Carried) (c : Said) where
     unfolding dataLent undoLent
     lent-same = ap
         (λ (b : Bool). areas
-        (take (lent (cond b (named (c .first)) (k .station .«data»)) (k .lent .«data»)) (k .lent .«data»))
-        (take (lent (cond b (named (c .second)) (k .station .undo)) (k .lent .undo)) (k .lent .undo))
+        (take (lent (cond b (named (c .first)) (k .footing .«data»)) (k .lent .«data»)) (k .lent .«data»))
+        (take (lent (cond b (named (c .second)) (k .footing .undo)) (k .lent .undo)) (k .lent .undo))
         (k .lent .status)) f
 
     named-same : (h s : ℕ) (d : List ℕ) (x : ℕ) → x ≡ lent (cond (isFormat (c .verb)) h s) d → lent (cond (accepted k c) x s) d ≡ x
@@ -166,26 +162,30 @@ module _ (k : Carried) (c : Said) where
         ap (λ (b : Bool). lent (cond (b && eqb (does .code) 0) x s) d) f ∙ ap (λ (b : Bool). lent (cond b h s) d) (sym f) ∙ sym e
 
     plain-world : worldIn (stepped k c) ≡ afterLine (worldIn k) (made k c)
-    unfolding turnIn playRule dataLent undoLent
+    unfolding leftIn playRule dataLent undoLent
     plain-world =
-        world-on stay (named-same (named (c .first)) (k .station .«data») (k .lent .«data») dataPart refl)
-        (named-same (named (c .second)) (k .station .undo) (k .lent .undo) undoPart refl)
+        world-on stay (named-same (named (c .first)) (k .footing .«data») (k .lent .«data») dataPart refl)
+        (named-same (named (c .second)) (k .footing .undo) (k .lent .undo) undoPart refl)
         ∙ done
-        ∙ ap (λ (a : Areas). afterLine (world a (k .station .desk)) (made k c)) lent-same
+        ∙ ap (λ (a : Areas). afterLine (world a (k .footing .desk)) (made k c)) lent-same
       where
-        done : world (does .left) (does .desk) ≡ afterLine (world (lentTo k c) (k .station .desk)) (made k c)
-        done = turn-world (lentTo k c) (k .station .desk) (c .first) (c .second) (c .body) (c .verb) f
+        it : Makes (lentTo k c) (k .footing .desk) (c .first) (c .second) (c .body) (c .verb) (made k c)
+        it = makes (lentTo k c) (k .footing .desk) (c .first) (c .second) (c .body) (c .verb)
 
-        stay : Stay (lentTo k c) (does .left)
+        done : world (does .lent) (does .desk) ≡ afterLine (world (lentTo k c) (k .footing .desk)) (made k c)
+        done = made-world (lentTo k c) (k .footing .desk) (c .first) (c .second) (c .body) (c .verb) (made k c) it f
+
+        stay : Stay (lentTo k c) (does .lent)
         stay =
             subst (λ (w : World). Stay (lentTo k c) (w .held)) (sym done)
-            (line-stay (lentTo k c) (k .station .desk) (c .first) (c .second) (c .body) (c .verb) f)
+            (made-stay (lentTo k c) (k .footing .desk) (c .first) (c .second) (c .body) (c .verb) (made k c) it f)
 
-    plain-line : lineOf does ≡ printed (worldIn k) (made k c)
-    unfolding turnIn playRule
+    plain-line : lineIn k c ≡ printed (worldIn k) (made k c)
+    unfolding leftIn playRule
     plain-line =
-        turn-line (lentTo k c) (k .station .desk) (c .first) (c .second) (c .body) (c .verb)
-        ∙ ap (λ (a : Areas). printed (world a (k .station .desk)) (made k c)) lent-same
+        made-line (lentTo k c) (k .footing .desk) (c .first) (c .second) (c .body) (c .verb) (made k c)
+        (makes (lentTo k c) (k .footing .desk) (c .first) (c .second) (c .body) (c .verb))
+        ∙ ap (λ (a : Areas). printed (world a (k .footing .desk)) (made k c)) lent-same
 
 -- ---- a format
 
@@ -195,8 +195,8 @@ unfolding lent
 lent-again n h d e = ap (λ (b : Bool). cond b n 0) (le-leb n (length d) (lent-inside n h d e))
 
 module _ (k : Carried) (x y : ℕ) (body : List ℕ) where
-  abbrev c : Said
-  c = call Format x y body
+  abbrev c : Command
+  c = command Format x y body
 
   abbrev a : Areas
   a = lentTo k c
@@ -205,15 +205,15 @@ module _ (k : Carried) (x y : ℕ) (body : List ℕ) where
   asks = format (a .«data») (a .undo) (a .status)
 
   format-world : worldIn (stepped k c) ≡ after (worldIn k) asks
-  unfolding step turnIn playRule formatTurn dataLent undoLent
+  unfolding step leftIn playRule dataLent undoLent
   format-world = by (eqb (formatRule a .0 .0) 0) refl
     where
       -- as much is lent again as the format named
       again : (n h s : ℕ) (d : List ℕ) → n ≡ lent h d → eqb (formatRule a .0 .0) 0 ≡ true → lent (cond (eqb (formatRule a .0 .0) 0) n s) d ≡ n
       again n h s d is e = ap (λ (b : Bool). lent (cond b n s) d) e ∙ lent-again n h d is
 
-      new : (n : ℕ) (d : Desk) (b : Areas) → n ≡ 0 → world b (kept n d (k .station .desk)) ≡ settle n (world b d) (λ (n : ℕ). worldIn k)
-      new n d b e = rw e refl
+      new : (n : ℕ) (w : World) → n ≡ 0 → w ≡ settle n w (λ (n : ℕ). worldIn k)
+      new n w e = rw e refl
 
       old : (n : ℕ) (w : World) → (n ≡ 0 → ⊥) → worldIn k ≡ settle n w (λ (n : ℕ). worldIn k)
       old zero w ne = absurd (ne refl)
@@ -225,12 +225,12 @@ module _ (k : Carried) (x y : ℕ) (body : List ℕ) where
           let is = format-accepted a code in
           world-on k c
           (subst (λ (r : (ℕ × Desk) × Areas). Stay a (r .1)) (sym (is .1)) (format-stay a (is .0)))
-          (again (dataPart k c) (named x) (k .station .«data») (k .lent .«data») refl e)
-          (again (undoPart k c) (named y) (k .station .undo) (k .lent .undo) refl e)
-          ∙ new (formatRule a .0 .0) (formatRule a .0 .1) (formatRule a .1) code
+          (again (dataPart k c) (named x) (k .footing .«data») (k .lent .«data») refl e)
+          (again (undoPart k c) (named y) (k .footing .undo) (k .lent .undo) refl e)
+          ∙ new (formatRule a .0 .0) (worldAfter (formatLeaves a (k .footing .desk))) code
       by false e =
           let code : formatRule a .0 .0 ≡ 0 → ⊥ = eqb-false (formatRule a .0 .0) 0 e in
-          ap worldIn (refused-leaves k c code) ∙ old (formatRule a .0 .0) (world (formatRule a .1) (formatRule a .0 .1)) code
+          ap worldIn (refused-leaves k c code) ∙ old (formatRule a .0 .0) (worldAfter (formatLeaves a (worldIn k .desk))) code
 
 -- ---- any line
 
@@ -249,15 +249,15 @@ only-format Withdraw e = true-false false e refl
 only-format Sweep e = true-false false e refl
 only-format IllFormed e = true-false false e refl
 
-pub line-step : (k : Carried) (c : Said) → Follows k c
-unfolding turnIn playRule
+pub line-step : (k : Carried) (c : Command) → Follows k c
+unfolding leftIn playRule
 line-step k c = by (isFormat (c .verb)) refl
   where
-    formats : (x y : ℕ) (body : List ℕ) → Follows k (call Format x y body)
-    formats x y body = (format-world k x y body, format-line (lentTo k (call Format x y body)) (k .station .desk) x y body (worldIn k))
+    formats : (x y : ℕ) (body : List ℕ) → Follows k (command Format x y body)
+    formats x y body = (format-world k x y body, format-line (lentTo k (command Format x y body)) (k .footing .desk) x y body (worldIn k))
 
     by : (b : Bool) → isFormat (c .verb) ≡ b → Follows k c
     by true e =
-        subst (λ (v : Verb). Follows k (call v (c .first) (c .second) (c .body))) (sym (only-format (c .verb) e))
+        subst (λ (v : Verb). Follows k (command v (c .first) (c .second) (c .body))) (sym (only-format (c .verb) e))
         (formats (c .first) (c .second) (c .body))
     by false e = (plain-world k c e, plain-line k c e)

@@ -9,24 +9,23 @@ use lib.Dec.{eqb}
 use Rattle.kind.specs.Kind.{rows}
 use Rattle.kind.specs.Areas.{Areas}
 use Rattle.machine.specs.Table.{Body, History, plainTable, openIn}
-use Rattle.machine.specs.Lines.{Call, format, opens, seal, begin, next, insert, update, delete, read, commit, withdraw, sweep, Answer, refused, done, historyOf}
+use Rattle.machine.specs.Lines.{Call, format, opens, seal, begin, next, insert, update, delete, read, commit, withdraw, sweep, Verdict, refused, done, historyOf}
 use Rattle.history.specs.World.{World, world, says, after, linesOf}
 use Rattle.lines.specs.Span.{parts}
 use Rattle.numeral.specs.Numeral.{numeralOf, hexOf}
 use Rattle.line.specs.declared.Verb.{Verb}
 use Rattle.line.specs.declared.Verb.the-variants.{Format, Open, Seal, Begin, Next, Insert, Update, Delete, Read, Commit, Withdraw, Sweep, IllFormed}
-use Rattle.line.specs.declared.Call.{Call as Said}
-use Rattle.line.specs.Line.{callOf, call, ill, noBody}
+use Rattle.line.specs.declared.Command.{Command}
+use Rattle.line.specs.Line.{commandOf, command, ill, noBody}
 use Rattle.reply.specs.Reply.{answerLine}
-use Rattle.playing.specs.Playing.{lineOf}
-use Rattle.script.specs.Script.{isFormat, Carried, carried, lentTo, turnIn, stepped, callIn, sixteen, answers, output, freshStation}
+use Rattle.script.specs.Script.{isFormat, Carried, carried, lentTo, leftIn, lineIn, stepped, commandIn, sixteen, answers, output, freshFooting}
 
 -- ---- one line
 
 -- the world behind it: the part of the areas that the last accepted format named, which is what a call is lent that is no format, and
 -- the desk
 abbrev pub worldIn : Carried → World
-worldIn k = world (lentTo k ill) (k .station .desk)
+worldIn k = world (lentTo k ill) (k .footing .desk)
 
 -- the call that a line makes, by its name, on what it is lent; an ill-formed line makes none
 abbrev pub callBy : Verb → Areas → ℕ → ℕ → Body → Option Call
@@ -44,7 +43,7 @@ callBy Withdraw a x y body = some (withdraw x)
 callBy Sweep a x y body = some (sweep x y)
 callBy IllFormed a x y body = none
 
-abbrev pub made : Carried → Said → Option Call
+abbrev pub made : Carried → Command → Option Call
 made k c = callBy (c .verb) (lentTo k c) (c .first) (c .second) (c .body)
 
 -- "begin the number, insert the row, read count and body, sweep next row and removed, the rest none"
@@ -63,7 +62,7 @@ fieldsFor (withdraw x) a b y = []
 fieldsFor (sweep first quota) a b y = numeralOf a ∷ numeralOf b ∷ []
 
 -- "Answers: the code, and where it is 0 the fields"
-abbrev pub lineFor : Call → Answer → List ℕ
+abbrev pub lineFor : Call → Verdict → List ℕ
 lineFor c (refused n) = answerLine n []
 lineFor c (done a b y) = answerLine 0 (fieldsFor c a b y)
 
@@ -77,25 +76,25 @@ printed w none = sixteen
 printed w (some c) = lineFor c (says w c)
 
 -- a line does to the world what its call does, and prints what that answers
-abbrev pub Follows : Carried → Said → Type 0
-Follows k c = (worldIn (stepped k c) ≡ afterLine (worldIn k) (made k c)) × (lineOf (turnIn k c) ≡ printed (worldIn k) (made k c))
+abbrev pub Follows : Carried → Command → Type 0
+Follows k c = (worldIn (stepped k c) ≡ afterLine (worldIn k) (made k c)) × (lineIn k c ≡ printed (worldIn k) (made k c))
 
 -- ---- lines one after the other, each ended by a newline
 
 -- what is carried on from them
 abbrev pub onward : Carried → List (List ℕ) → Carried
 onward k [] = k
-onward k (l ∷ ls) = onward (stepped k (callIn k l)) ls
+onward k (l ∷ ls) = onward (stepped k (commandIn k l)) ls
 
 -- what they print
 abbrev pub saidBy : Carried → List (List ℕ) → List ℕ
 saidBy k [] = []
-saidBy k (l ∷ ls) = lineOf (turnIn k (callIn k l)) ++ saidBy (stepped k (callIn k l)) ls
+saidBy k (l ∷ ls) = lineIn k (commandIn k l) ++ saidBy (stepped k (commandIn k l)) ls
 
 -- what each of them makes, and what that prints on a world
 abbrev pub madeIn : Carried → List (List ℕ) → List (Option Call)
 madeIn k [] = []
-madeIn k (l ∷ ls) = made k (callIn k l) ∷ madeIn (stepped k (callIn k l)) ls
+madeIn k (l ∷ ls) = made k (commandIn k l) ∷ madeIn (stepped k (commandIn k l)) ls
 
 abbrev pub printedAll : World → List (Option Call) → List ℕ
 printedAll w [] = []
@@ -118,21 +117,21 @@ abbrev pub historyIn : Carried → List (List ℕ) → History
 historyIn k ls = historyOf (linesOf (worldIn k) (callsIn k ls))
 
 -- a line is a format, and it is accepted
-abbrev pub accepted : Carried → Said → Bool
-accepted k c = isFormat (c .verb) && eqb (turnIn k c .code) 0
+abbrev pub accepted : Carried → Command → Bool
+accepted k c = isFormat (c .verb) && eqb (leftIn k c .code) 0
 
 -- one of them is
 abbrev pub formats : Carried → List (List ℕ) → Bool
 formats k [] = false
-formats k (l ∷ ls) = accepted k (callIn k l) || formats (stepped k (callIn k l)) ls
+formats k (l ∷ ls) = accepted k (commandIn k l) || formats (stepped k (commandIn k l)) ls
 
 -- "Before an accepted format every well-formed call but format answers 1": behind any lines of a script of which none is an accepted
 -- format, such a line prints 1, and what is carried on is as it was
 abbrev pub BeforeFormat : Type 0
-BeforeFormat = (a : Areas) (ls : List (List ℕ)) → formats (carried freshStation a) ls ≡ false
-    → (c : Said) → isFormat (c .verb) ≡ false → (c .verb ≡ IllFormed → ⊥)
-    → (lineOf (turnIn (onward (carried freshStation a) ls) c) ≡ answerLine 1 [])
-    × (stepped (onward (carried freshStation a) ls) c ≡ onward (carried freshStation a) ls)
+BeforeFormat = (a : Areas) (ls : List (List ℕ)) → formats (carried freshFooting a) ls ≡ false
+    → (c : Command) → isFormat (c .verb) ≡ false → (c .verb ≡ IllFormed → ⊥)
+    → (lineIn (onward (carried freshFooting a) ls) c ≡ answerLine 1 [])
+    × (stepped (onward (carried freshFooting a) ls) c ≡ onward (carried freshFooting a) ls)
 
 -- ---- what a read should print
 
@@ -147,16 +146,16 @@ abbrev pub ScriptReading : Type 0
 ScriptReading = (k : Carried) (ls : List (List ℕ)) → formats k ls ≡ true
     → (n : ℕ) → openIn (historyIn k ls) n ≡ true
     → (r : ℕ) → r < rows (worldIn (onward k ls) .held .«data»)
-    → (l : List ℕ) → callOf l ≡ call Read n r noBody
-    → Prints (plainTable (historyIn k ls) n r) (lineOf (turnIn (onward k ls) (callIn (onward k ls) l)))
+    → (l : List ℕ) → commandOf l ≡ command Read n r noBody
+    → Prints (plainTable (historyIn k ls) n r) (lineIn (onward k ls) (commandIn (onward k ls) l))
 
 -- and in the output of a whole text that line stands behind what the lines before it print
 abbrev pub OutputReading : Type 0
 OutputReading = (k : Carried) (ls : List (List ℕ)) → formats k ls ≡ true
     → (n : ℕ) → openIn (historyIn k ls) n ≡ true
     → (r : ℕ) → r < rows (worldIn (onward k ls) .held .«data»)
-    → (l : List ℕ) → callOf l ≡ call Read n r noBody
+    → (l : List ℕ) → commandOf l ≡ command Read n r noBody
     → (text m : List ℕ) (ms : List (List ℕ)) → parts 10 text ≡ ls ++ (l ∷ m ∷ ms)
     → (line : List ℕ)
     × Prints (plainTable (historyIn k ls) n r) line
-    × (output k text ≡ saidBy k ls ++ (line ++ answers (stepped (onward k ls) (callIn (onward k ls) l)) (m ∷ ms)))
+    × (output k text ≡ saidBy k ls ++ (line ++ answers (stepped (onward k ls) (commandIn (onward k ls) l)) (m ∷ ms)))

@@ -19,7 +19,7 @@ use Rattle.chain.specs.declared.Place.{Place}
 use Rattle.chain.specs.declared.Place.the-variants.{Nowhere, Data, Undo}
 use Rattle.words.specs.Words.{all-words, deskIn, wordsOf}
 use Rattle.words.proofs.Laws.{words-back, words-once}
-use Rattle.station.specs.Station.{left, liesOf}
+use Rattle.station.specs.Station.{handed, liesOf}
 
 -- ---- a call
 
@@ -29,12 +29,12 @@ pub calls : {A B : Type 0} (code : A → ℕ) (lent : B → Areas) (words out : 
     → n ≡ code a
     → w ≡ words a
     → o ≡ out a
-    → Does (code (rule .0), left (lent (rule .1)) (words (rule .0)) (out (rule .0))) n (left (lent b) w o)
+    → Does (code (rule .0), handed (lent (rule .1)) (words (rule .0)) (out (rule .0))) n (handed (lent b) w o)
 calls code lent words out rule done n w o =
     let l = done .leaves in
     let w′ = w ∙ ap words (done .answers) in
     let o′ = o ∙ ap out (done .answers) in
-    record { answers = n ∙ ap code (done .answers); leaves = λ i. left (lent (l i)) (w′ i) (o′ i) }
+    record { answers = n ∙ ap code (done .answers); leaves = λ i. handed (lent (l i)) (w′ i) (o′ i) }
 
 -- a call that writes no area leaves them
 pub reads : {A B : Type 0} (rule : A) {a : A} (b : B) → a ≡ rule → Does (rule, b) a b
@@ -42,9 +42,13 @@ reads rule b e = record { answers = e; leaves = refl }
 
 -- ---- the desk's words, by whether the call is done
 
--- the answer, as its function says it
-pub kept-by : {n m : ℕ} (d : Desk) (w : List ℕ) {l : List ℕ} → n ≡ m → l ≡ kept n (wordsOf d) w → l ≡ kept m (wordsOf d) w
-kept-by d w same e = e ∙ ap (λ (n : ℕ). kept n (wordsOf d) w) same
+-- the desk that format and open hand back, where they are done: the answer, as its function says it
+pub kept-by : {n m : ℕ} (d : Desk) (w : List ℕ) {l : List ℕ} → n ≡ m → l ≡ kept n (wordsOf d) w → l ≡ kept m (wordsOf (kept m d (deskIn w))) w
+kept-by {m = m} d w same e = e ∙ ap (λ (n : ℕ). kept n (wordsOf d) w) same ∙ once (eqb m 0)
+  where
+    once : (t : Bool) → cond t (wordsOf d) w ≡ cond t (wordsOf (cond t d (deskIn w))) w
+    once true = refl
+    once false = refl
 
 -- words w that a call has changed to w′, where a refused call leaves the desk that they say
 pub kept-words : (w w′ : List ℕ) → length w ≡ all-words → length w′ ≡ all-words → (n : ℕ) → ((n ≡ 0 → ⊥) → deskIn w′ ≡ deskIn w) → w′ ≡ kept n (wordsOf (deskIn w′)) w

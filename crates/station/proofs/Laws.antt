@@ -19,7 +19,7 @@ use Rattle.records.proofs.Bodies.{bodyAt-cut, copyBodyAt-cut}
 use Rattle.chain.specs.declared.Place.{Place}
 use Rattle.chain.specs.declared.Place.the-variants.{Nowhere, Data, Undo}
 use Rattle.chain.specs.Walk.{bodyOf}
-use Rattle.station.specs.Station.{Left, liesOf}
+use Rattle.station.specs.Station.{Handed, liesOf}
 
 -- ---- where a body lies
 
@@ -67,5 +67,5 @@ lies-body (Undo r) d u at = (there (ltb r (entries u)), here (ltb r (entries u))
 
 -- ---- no second result, of any of the twelve calls
 
-pub call-once : (rule : ℕ × Left) (n n′ : ℕ) (x x′ : Left) → Does rule n x → Does rule n′ x′ → (n ≡ n′) × (x ≡ x′)
+pub call-once : (rule : ℕ × Handed) (n n′ : ℕ) (x x′ : Handed) → Does rule n x → Does rule n′ x′ → (n ≡ n′) × (x ≡ x′)
 call-once rule n n′ x x′ p q = once p q

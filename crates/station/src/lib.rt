@@ -11,7 +11,7 @@ ghost use Rattle.ground.specs.Does.{Does};
 ghost use Rattle.ground.specs.Refuse.{kept};
 ghost use Rattle.kind.specs.Areas.{areas};
 ghost use Rattle.words.specs.Words.{all-words, wordsOf};
-ghost use Rattle.station.specs.Station.{left, liesOf, formatCall, openCall, sealCall, beginCall, nextCall, insertCall, updateCall, deleteCall, readCall, commitCall, withdrawCall, sweepCall};
+ghost use Rattle.station.specs.Station.{handed, liesOf, formatCall, openCall, sealCall, beginCall, nextCall, insertCall, updateCall, deleteCall, readCall, commitCall, withdrawCall, sweepCall};
 
 // Where a body lies: 0 nowhere, 1 in the data area, 2 in the undo area, and at which byte of it.
 struct Spot {
@@ -90,7 +90,7 @@ pub extern "C" fn chirimok_format(
     status: &mut [u8],
     desk: &mut Words,
 ) -> u32
-    ensures { λ r. ⌜ Does (formatCall (areas (now («data» .entry)) (now (undo .entry)) (now (status .entry))) (now (desk .entry))) r (left (areas (now («data» .exit)) (now (undo .exit)) (now (status .exit))) (now (desk .exit)) []) ⌝ }
+    ensures { λ r. ⌜ Does (formatCall (areas (now («data» .entry)) (now (undo .entry)) (now (status .entry))) (now (desk .entry))) r (handed (areas (now («data» .exit)) (now (undo .exit)) (now (status .exit))) (now (desk .exit)) []) ⌝ }
 {
     let o = keep::format(data, undo, status);
     let a = o.answer;
@@ -103,7 +103,7 @@ pub extern "C" fn chirimok_format(
 // Checks sealed areas, and writes the desk to go on with.
 #[no_mangle]
 pub extern "C" fn chirimok_open(data: &[u8], undo: &[u8], status: &[u8], desk: &mut Words) -> u32
-    ensures { λ r. ⌜ Does (openCall (areas (now («data» .entry)) (now (undo .entry)) (now (status .entry))) (now (desk .entry))) r (left (areas (now («data» .exit)) (now (undo .exit)) (now (status .exit))) (now (desk .exit)) []) ⌝ }
+    ensures { λ r. ⌜ Does (openCall (areas (now («data» .entry)) (now (undo .entry)) (now (status .entry))) (now (desk .entry))) r (handed (areas (now («data» .exit)) (now (undo .exit)) (now (status .exit))) (now (desk .exit)) []) ⌝ }
 {
     let o = keep::open(data, undo, status);
     let a = o.answer;
@@ -121,7 +121,7 @@ pub extern "C" fn chirimok_seal(
     status: &mut [u8],
     desk: &Words,
 ) -> u32
-    ensures { λ r. ⌜ Does (sealCall (areas (now («data» .entry)) (now (undo .entry)) (now (status .entry))) (now (desk .entry))) r (left (areas (now («data» .exit)) (now (undo .exit)) (now (status .exit))) (now (desk .exit)) []) ⌝ }
+    ensures { λ r. ⌜ Does (sealCall (areas (now («data» .entry)) (now (undo .entry)) (now (status .entry))) (now (desk .entry))) r (handed (areas (now («data» .exit)) (now (undo .exit)) (now (status .exit))) (now (desk .exit)) []) ⌝ }
 {
     let a = keep::seal(data, undo, status, desk);
     answer::code(a)
@@ -136,7 +136,7 @@ pub extern "C" fn chirimok_begin(
     desk: &mut Words,
     out: &mut [u64; 1],
 ) -> u32
-    ensures { λ r. ⌜ Does (beginCall (areas (now («data» .entry)) (now (undo .entry)) (now (status .entry))) (now (desk .entry))) r (left (areas (now («data» .exit)) (now (undo .exit)) (now (status .exit))) (now (desk .exit)) (now (out .exit))) ⌝ }
+    ensures { λ r. ⌜ Does (beginCall (areas (now («data» .entry)) (now (undo .entry)) (now (status .entry))) (now (desk .entry))) r (handed (areas (now («data» .exit)) (now (undo .exit)) (now (status .exit))) (now (desk .exit)) (now (out .exit))) ⌝ }
 {
     let b = turns::begin(data, undo, status, desk);
     let a = b.answer;
@@ -153,7 +153,7 @@ pub extern "C" fn chirimok_next(
     desk: &mut Words,
     session: u64,
 ) -> u32
-    ensures { λ r. ⌜ Does (nextCall (areas (now («data» .entry)) (now (undo .entry)) (now (status .entry))) (now (desk .entry)) session) r (left (areas (now («data» .exit)) (now (undo .exit)) (now (status .exit))) (now (desk .exit)) []) ⌝ }
+    ensures { λ r. ⌜ Does (nextCall (areas (now («data» .entry)) (now (undo .entry)) (now (status .entry))) (now (desk .entry)) session) r (handed (areas (now («data» .exit)) (now (undo .exit)) (now (status .exit))) (now (desk .exit)) []) ⌝ }
 {
     let a = turns::next(data, undo, status, desk, session);
     answer::code(a)
@@ -170,7 +170,7 @@ pub extern "C" fn chirimok_insert(
     body: &[u8],
     out: &mut [u64; 1],
 ) -> u32
-    ensures { λ r. ⌜ Does (insertCall (areas (now («data» .entry)) (now (undo .entry)) (now (status .entry))) (now (desk .entry)) session (now (body .entry))) r (left (areas (now («data» .exit)) (now (undo .exit)) (now (status .exit))) (now (desk .exit)) (now (out .exit))) ⌝ }
+    ensures { λ r. ⌜ Does (insertCall (areas (now («data» .entry)) (now (undo .entry)) (now (status .entry))) (now (desk .entry)) session (now (body .entry))) r (handed (areas (now («data» .exit)) (now (undo .exit)) (now (status .exit))) (now (desk .exit)) (now (out .exit))) ⌝ }
 {
     let i = rows::insert(data, undo, status, desk, session, body);
     let a = i.answer;
@@ -189,7 +189,7 @@ pub extern "C" fn chirimok_update<'a>(
     row: u64,
     body: &[u8],
 ) -> u32
-    ensures { λ r. ⌜ Does (updateCall (areas (now («data» .entry)) (now (undo .entry)) (now (status .entry))) (now (desk .entry)) session row (now (body .entry))) r (left (areas (now («data» .exit)) (now (undo .exit)) (now (status .exit))) (now (desk .exit)) []) ⌝ }
+    ensures { λ r. ⌜ Does (updateCall (areas (now («data» .entry)) (now (undo .entry)) (now (status .entry))) (now (desk .entry)) session row (now (body .entry))) r (handed (areas (now («data» .exit)) (now (undo .exit)) (now (status .exit))) (now (desk .exit)) []) ⌝ }
 {
     let a = rows::update(data, undo, status, desk, session, row as usize, body);
     answer::code(a)
@@ -205,7 +205,7 @@ pub extern "C" fn chirimok_delete<'a>(
     session: u64,
     row: u64,
 ) -> u32
-    ensures { λ r. ⌜ Does (deleteCall (areas (now («data» .entry)) (now (undo .entry)) (now (status .entry))) (now (desk .entry)) session row) r (left (areas (now («data» .exit)) (now (undo .exit)) (now (status .exit))) (now (desk .exit)) []) ⌝ }
+    ensures { λ r. ⌜ Does (deleteCall (areas (now («data» .entry)) (now (undo .entry)) (now (status .entry))) (now (desk .entry)) session row) r (handed (areas (now («data» .exit)) (now (undo .exit)) (now (status .exit))) (now (desk .exit)) []) ⌝ }
 {
     let a = rows::delete(data, undo, status, desk, session, row as usize);
     answer::code(a)
@@ -222,7 +222,7 @@ pub extern "C" fn chirimok_read<'a>(
     row: u64,
     out: &mut [u64; 3],
 ) -> u32
-    ensures { λ r. ⌜ Does (readCall (areas (now («data» .entry)) (now (undo .entry)) (now (status .entry))) (now (desk .entry)) session row) r (left (areas (now («data» .exit)) (now (undo .exit)) (now (status .exit))) (now (desk .exit)) (now (out .exit))) ⌝ }
+    ensures { λ r. ⌜ Does (readCall (areas (now («data» .entry)) (now (undo .entry)) (now (status .entry))) (now (desk .entry)) session row) r (handed (areas (now («data» .exit)) (now (undo .exit)) (now (status .exit))) (now (desk .exit)) (now (out .exit))) ⌝ }
 {
     let r = rows::read(data, undo, status, desk, session, row as usize);
     let a = r.answer;
@@ -241,7 +241,7 @@ pub extern "C" fn chirimok_commit(
     desk: &mut Words,
     session: u64,
 ) -> u32
-    ensures { λ r. ⌜ Does (commitCall (areas (now («data» .entry)) (now (undo .entry)) (now (status .entry))) (now (desk .entry)) session) r (left (areas (now («data» .exit)) (now (undo .exit)) (now (status .exit))) (now (desk .exit)) []) ⌝ }
+    ensures { λ r. ⌜ Does (commitCall (areas (now («data» .entry)) (now (undo .entry)) (now (status .entry))) (now (desk .entry)) session) r (handed (areas (now («data» .exit)) (now (undo .exit)) (now (status .exit))) (now (desk .exit)) []) ⌝ }
 {
     let a = turns::commit(data, undo, status, desk, session);
     answer::code(a)
@@ -256,7 +256,7 @@ pub extern "C" fn chirimok_withdraw(
     desk: &mut Words,
     session: u64,
 ) -> u32
-    ensures { λ r. ⌜ Does (withdrawCall (areas (now («data» .entry)) (now (undo .entry)) (now (status .entry))) (now (desk .entry)) session) r (left (areas (now («data» .exit)) (now (undo .exit)) (now (status .exit))) (now (desk .exit)) []) ⌝ }
+    ensures { λ r. ⌜ Does (withdrawCall (areas (now («data» .entry)) (now (undo .entry)) (now (status .entry))) (now (desk .entry)) session) r (handed (areas (now («data» .exit)) (now (undo .exit)) (now (status .exit))) (now (desk .exit)) []) ⌝ }
 {
     let a = undoing::withdraw(data, undo, status, desk, session);
     answer::code(a)
@@ -273,7 +273,7 @@ pub extern "C" fn chirimok_sweep(
     quota: u64,
     out: &mut [u64; 2],
 ) -> u32
-    ensures { λ r. ⌜ Does (sweepCall (areas (now («data» .entry)) (now (undo .entry)) (now (status .entry))) (now (desk .entry)) first quota) r (left (areas (now («data» .exit)) (now (undo .exit)) (now (status .exit))) (now (desk .exit)) (now (out .exit))) ⌝ }
+    ensures { λ r. ⌜ Does (sweepCall (areas (now («data» .entry)) (now (undo .entry)) (now (status .entry))) (now (desk .entry)) first quota) r (handed (areas (now («data» .exit)) (now (undo .exit)) (now (status .exit))) (now (desk .exit)) (now (out .exit))) ⌝ }
 {
     let s = sweeping::sweep(data, undo, status, desk, first as usize, quota as usize);
     let a = s.answer;

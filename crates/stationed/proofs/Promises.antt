@@ -6,9 +6,9 @@ use mathlib.Core.Bool.{Bool, true, _&&_, _||_}
 use mathlib.Core.List.{List, [], _∷_}
 use Rattle.kind.specs.Kind.{rows}
 use Rattle.machine.specs.Table.{History, plainTable, openIn}
-use Rattle.machine.specs.Lines.{Call, read, Answer, isDone, isFormat, Line, historyOf}
+use Rattle.machine.specs.Lines.{Call, read, Verdict, isDone, isFormat, Line, historyOf}
 use Rattle.history.specs.World.{World, says, after, afterAll, linesOf}
-use Rattle.history.specs.Asked.{AllProper, Answers}
+use Rattle.history.specs.Asked.{AllProper, Matches}
 use Rattle.history.specs.Since.{formats, Since}
 use Rattle.history.proofs.Since.{since, since-reading}
 use Rattle.stationed.specs.Stationed.{Held, onward, told, worldOf, Worded, onwardAll, recordOf, historyBy, formatted, StationReading}
@@ -30,13 +30,13 @@ world-calls (c ∷ cs) h long =
 pub record-lines : (cs : List Call) (h : Held) → Worded h → recordOf h cs ≡ linesOf (worldOf h) cs
 record-lines [] h long = refl
 record-lines (c ∷ cs) h long =
-    ap₂ (λ (a : Answer) (ls : List Line). record { call = c; answer = a } ∷ ls) (call-step h long c .tells)
+    ap₂ (λ (a : Verdict) (ls : List Line). record { call = c; answer = a } ∷ ls) (call-step h long c .tells)
     (record-lines cs (onward h c) (call-step h long c .worded) ∙ ap (λ (w : World). linesOf w cs) (call-step h long c .leaves))
 
 formatted-formats : (cs : List Call) (h : Held) → Worded h → formatted h cs ≡ formats (worldOf h) cs
 formatted-formats [] h long = refl
 formatted-formats (c ∷ cs) h long =
-    ap₂ (λ (a : Answer) (b : Bool). (isFormat c && isDone a) || b) (call-step h long c .tells)
+    ap₂ (λ (a : Verdict) (b : Bool). (isFormat c && isDone a) || b) (call-step h long c .tells)
     (formatted-formats cs (onward h c) (call-step h long c .worded) ∙ ap (λ (w : World). formats w cs) (call-step h long c .leaves))
 
 -- ---- a history
@@ -51,5 +51,5 @@ station-run h long cs p e =
 
 pub station-reading : StationReading
 station-reading h long cs p e n o r inside =
-    subst (Answers (plainTable (historyBy h cs) n r)) (sym (call-step (onwardAll h cs) (all-worded cs h long) (read n r) .tells))
+    subst (Matches (plainTable (historyBy h cs) n r)) (sym (call-step (onwardAll h cs) (all-worded cs h long) (read n r) .tells))
     (since-reading (worldOf (onwardAll h cs)) (historyBy h cs) (station-run h long cs p e) n o r inside)

@@ -2,17 +2,17 @@
 -- and keeps as many words. Assumes nothing.
 use Prim.Native.Nat.{ℕ, zero, suc, _+_}
 use native.Mathlib.Omega.{arith}
-use mathlib.Core.Path.{_≡_, refl, sym, ap, _∙_}
+use mathlib.Core.Path.{_≡_, refl, sym, ap, subst, _∙_}
 use mathlib.Core.Bool.{Bool, true, false, cond}
 use mathlib.Core.List.{List, [], _∷_}
 use lib.ListN.{length, drop, length-drop}
 use lib.Seq.{length-take-le}
 use lib.Dec.{eqb, ltb}
 use Rattle.ground.specs.Refuse.{firstOf, settle, kept}
-use Rattle.ground.proofs.Refusals.{settled, kept-old}
+use Rattle.ground.proofs.Refusals.{kept-new, kept-old}
 use Rattle.places.specs.Open.{placeIn}
 use Rattle.desk.specs.declared.Desk.{Desk}
-use Rattle.desk.specs.Desk.{firstStatement}
+use Rattle.desk.specs.Desk.{firstNumber, firstStatement}
 use Rattle.desk.specs.Turns.{closed}
 use Rattle.sessions.proofs.Changes.{Long, isOpen-open}
 use Rattle.seen.proofs.Desks.{begun-long, moved-long, closed-long, fresh-long}
@@ -28,12 +28,13 @@ use Rattle.chain.specs.declared.Place.the-variants.{Nowhere, Data, Undo}
 use Rattle.chain.specs.Walk.{bodyOf}
 use Rattle.admit.proofs.Admissions.{asks, accepts}
 use Rattle.keep.specs.Whole.{highest}
-use Rattle.keep.specs.Keep.{formatRefusal, formatRule, openRefusal, openRule}
-use Rattle.turns.specs.Turns.{beginRefusal, beginRule, nextRefusal, nextRule, commitRefusal, commitRule}
-use Rattle.rows.specs.Rows.{readRule}
-use Rattle.undoing.specs.Undoing.{someBroken, withdrawRefusal, withdrawRule}
+use Rattle.keep.specs.Keep.{formatRefusal, openRefusal}
+use Rattle.turns.specs.Turns.{beginRefusal, nextRefusal, commitRefusal}
+use Rattle.undoing.specs.Undoing.{someBroken, withdrawRefusal}
+use Rattle.calls.specs.Calls.{Left, formatLeaves, openLeaves, beginLeaves, nextLeaves, readLeaves, commitLeaves, withdrawLeaves}
+use Rattle.calls.proofs.Settled.{settles, format-settles, open-settles, begin-settles, next-settles, commit-settles, withdraw-settles}
 use Rattle.machine.specs.Lines.{Call, format, opens, seal, begin, next, insert, update, delete, read, commit, withdraw, sweep}
-use Rattle.history.specs.World.{world, answered, step, says, after}
+use Rattle.history.specs.World.{world, answered, worldAfter, step, says, after}
 use Rattle.station.specs.Station.{liesOf, formatCall, openCall, sealCall, beginCall, nextCall, insertCall, updateCall, deleteCall, readCall, commitCall, withdrawCall, sweepCall}
 use Rattle.station.proofs.Laws.{lies-body}
 use Rattle.stationed.specs.Stationed.{Held, onward, bytesAt, told, worldOf, Worded}
@@ -103,51 +104,46 @@ settle-kept : {A : Type 0} (n : ℕ) (a b : A) → settle n a (λ (m : ℕ). b) 
 settle-kept zero a b = refl
 settle-kept (suc n) a b = kept-old (suc n) a b (λ e. omega (arith, e))
 
--- ---- the desks that the rules hand back: of their lengths, and the old one where the call is refused
+-- ---- the desks that the calls leave: of their lengths, and the old one where the call is refused
 
-record Hands (n : ℕ) (new old : Desk) : Type 0 where
-  pub long : Long new
-  pub same : kept n new old ≡ new
+record Hands (l : Left) (old : Desk) : Type 0 where
+  pub long : Long (l .desk)
+  pub same : kept (l .code) (l .desk) old ≡ l .desk
 
 module _ (a : Areas) (d : Desk) (l : Long d) where
-  old-long : (m : ℕ) → Hands (suc m) d d
-  old-long m = record { long = l; same = kept-same (suc m) d }
+  -- of a call that settles
+  hands : (n : ℕ) (done : Left) (left : Left) → left ≡ settles a d n done → done .code ≡ 0 → (n ≡ 0 → Long (done .desk)) → Hands left d
+  hands n done left e z long = subst (λ (k : Left). Hands k d) (sym e) (by n refl)
+    where
+      by : (m : ℕ) → n ≡ m → Hands (settles a d m done) d
+      by zero q = record { long = long q; same = sym (kept-new (done .code) (done .desk) d z) }
+      by (suc m) q = record { long = l; same = kept-same (suc m) d }
 
-  hands-begin : Hands (beginRule a d .0 .0) (beginRule a d .0 .2) d
-  unfolding beginRule
-  hands-begin =
-      settled _ _ (beginRefusal a d) (λ (y : (ℕ × ℕ × Desk) × List ℕ). Hands (y .0 .0) (y .0 .2) d)
-      (λ e. record { long = begun-long d l; same = refl }) old-long
+  hands-format : Hands (formatLeaves a d) d
+  hands-format = hands (formatRefusal a) _ _ (format-settles a d) refl (λ e. fresh-long firstNumber)
 
-  hands-next : (x : ℕ) → Hands (nextRule a d x .0) (nextRule a d x .1) d
-  unfolding nextRule
-  hands-next x =
-      settled _ _ (nextRefusal a d x) (λ (y : ℕ × Desk). Hands (y .0) (y .1) d)
-      (λ e. record { long = moved-long d (placeIn x (d .numbers)) l; same = refl }) old-long
+  hands-open : Hands (openLeaves a d) d
+  hands-open = hands (openRefusal a) _ _ (open-settles a d) refl (λ e. fresh-long (highest (a .status) + 1))
 
-  closed-hands : (x : ℕ) (rest : List (Bool × ℕ)) → firstOf (asks (a .«data») (a .undo) (a .status) d x rest) ≡ 0 → Hands 0 (closed (placeIn x (d .numbers)) d) d
-  closed-hands x rest e =
+  hands-begin : Hands (beginLeaves a d) d
+  hands-begin = hands (beginRefusal a d) _ _ (begin-settles a d) refl (λ e. begun-long d l)
+
+  hands-next : (x : ℕ) → Hands (nextLeaves a d x) d
+  hands-next x = hands (nextRefusal a d x) _ _ (next-settles a d x) refl (λ e. moved-long d (placeIn x (d .numbers)) l)
+
+  closes : (x : ℕ) (rest : List (Bool × ℕ)) → firstOf (asks (a .«data») (a .undo) (a .status) d x rest) ≡ 0 → Long (closed (placeIn x (d .numbers)) d)
+  closes x rest e =
       let p = accepts (a .«data») (a .undo) (a .status) d x rest e .0 .passed in
-      record { long = closed-long d (placeIn x (d .numbers)) (isOpen-open d x (p .sound) (p .opened) .place) l; same = refl }
+      closed-long d (placeIn x (d .numbers)) (isOpen-open d x (p .sound) (p .opened) .place) l
 
-  hands-commit : (x : ℕ) → Hands (commitRule a d x .0 .0) (commitRule a d x .0 .1) d
-  unfolding commitRule commitRefusal
-  hands-commit x =
-      settled _ _ (commitRefusal a d x) (λ (y : (ℕ × Desk) × List ℕ). Hands (y .0 .0) (y .0 .1) d) (closed-hands x []) old-long
+  hands-commit : (x : ℕ) → Hands (commitLeaves a d x) d
+  unfolding commitRefusal
+  hands-commit x = hands (commitRefusal a d x) _ _ (commit-settles a d x) refl (closes x [])
 
-  hands-withdraw : (x : ℕ) → Hands (withdrawRule a d x .0 .0) (withdrawRule a d x .0 .1) d
-  unfolding withdrawRule withdrawRefusal
+  hands-withdraw : (x : ℕ) → Hands (withdrawLeaves a d x) d
+  unfolding withdrawRefusal
   hands-withdraw x =
-      settled _ _ (withdrawRefusal a d x) (λ (y : (ℕ × Desk) × Areas). Hands (y .0 .0) (y .0 .1) d)
-      (closed-hands x ((someBroken x firstStatement (a .«data») (a .undo), 6) ∷ [])) old-long
-
-format-long : (a : Areas) → Long (formatRule a .0 .1)
-unfolding formatRule
-format-long a = settled _ _ (formatRefusal a) (λ (y : (ℕ × Desk) × Areas). Long (y .0 .1)) (λ e. fresh-long 1) (λ m. fresh-long 0)
-
-open-long : (a : Areas) → Long (openRule a .1)
-unfolding openRule
-open-long a = settled _ _ (openRefusal a) (λ (y : ℕ × Desk). Long (y .1)) (λ e. fresh-long (highest (a .status) + 1)) (λ m. fresh-long 0)
+      hands (withdrawRefusal a d x) _ _ (withdraw-settles a d x) refl (closes x ((someBroken x firstStatement (a .«data») (a .undo), 6) ∷ []))
 
 -- ---- one call
 
@@ -157,106 +153,58 @@ pub record Steps (h : Held) (c : Call) : Type 0 where
   pub tells : told h c ≡ says (worldOf h) c
   pub worded : Worded (onward h c)
 
--- a call that hands desk `new` back under number n
-module _ (w : List ℕ) (long : length w ≡ all-words) (n : ℕ) (new : Desk) (hands : Hands n new (deskIn w)) where
-  desk-on : deskIn (kept n (wordsOf new) w) ≡ new
-  desk-on = desk-kept n new w (hands .long) ∙ hands .same
+-- a call that is lent the words to write
+module _ (w : List ℕ) (long : length w ≡ all-words) (l : Left) (hands : Hands l (deskIn w)) where
+  desk-on : world (l .lent) (deskIn (kept (l .code) (wordsOf (l .desk)) w)) ≡ worldAfter l
+  desk-on = ap (world (l .lent)) (desk-kept (l .code) (l .desk) w (hands .long) ∙ hands .same)
 
-  words-on : length (kept n (wordsOf new) w) ≡ all-words
-  words-on = words-kept n new w (hands .long) long
+  words-on : length (kept (l .code) (wordsOf (l .desk)) w) ≡ all-words
+  words-on = words-kept (l .code) (l .desk) w (hands .long) long
 
-pub call-step : (h : Held) → Worded h → (c : Call) → Steps h c
-unfolding step formatCall openCall sealCall beginCall nextCall insertCall updateCall deleteCall readCall commitCall withdrawCall sweepCall
-call-step h long (format d u s) = record {
-  leaves =
-      ap (world (kept n (r .1) (h .lent))) (desk-kept n (r .0 .1) (h .words) (format-long (areas d u s)))
-      ∙ two (eqb n 0)
-      ∙ sym (settle-kept n (world (r .1) (r .0 .1)) (worldOf h));
-  tells = refl;
-  worded = words-kept n (r .0 .1) (h .words) (format-long (areas d u s)) long;
-}
-  where
-    r : (ℕ × Desk) × Areas
-    r = formatRule (areas d u s)
+  -- and is a format
+  format-on : (b : Areas)
+      → world (kept (l .code) (l .lent) b) (deskIn (kept (l .code) (wordsOf (l .desk)) w)) ≡ settle (l .code) (worldAfter l) (λ (n : ℕ). world b (deskIn w))
+  format-on b =
+      ap (world (kept (l .code) (l .lent) b)) (desk-kept (l .code) (l .desk) w (hands .long))
+      ∙ two (eqb (l .code) 0)
+      ∙ sym (settle-kept (l .code) (worldAfter l) (world b (deskIn w)))
+    where
+      two : (t : Bool) → world (cond t (l .lent) b) (cond t (l .desk) (deskIn w)) ≡ cond t (worldAfter l) (world b (deskIn w))
+      two true = refl
+      two false = refl
 
-    n : ℕ
-    n = r .0 .0
+module _ (h : Held) (long : Worded h) where
+  abbrev d : Desk
+  d = deskIn (h .words)
 
-    two : (t : Bool) → world (cond t (r .1) (h .lent)) (cond t (r .0 .1) (deskIn (h .words))) ≡ cond t (world (r .1) (r .0 .1)) (worldOf h)
-    two true = refl
-    two false = refl
-call-step h long opens = record {
-  leaves =
-      ap (world (h .lent)) (desk-kept n (r .1) (h .words) (open-long (h .lent)))
-      ∙ one (eqb n 0)
-      ∙ sym (settle-kept n (world (h .lent) (r .1)) (worldOf h));
-  tells = refl;
-  worded = words-kept n (r .1) (h .words) (open-long (h .lent)) long;
-}
-  where
-    r : ℕ × Desk
-    r = openRule (h .lent)
+  l : Long d
+  l = said-long (h .words) long
 
-    n : ℕ
-    n = r .0
-
-    one : (t : Bool) → world (h .lent) (cond t (r .1) (deskIn (h .words))) ≡ cond t (world (h .lent) (r .1)) (worldOf h)
-    one true = refl
-    one false = refl
-call-step h long seal = record { leaves = refl; tells = refl; worded = long }
-call-step h long begin = record {
-  leaves = ap (world _) (desk-on (h .words) long (r .0 .0) (r .0 .2) hands);
-  tells = refl;
-  worded = words-on (h .words) long (r .0 .0) (r .0 .2) hands;
-}
-  where
-    r : (ℕ × ℕ × Desk) × List ℕ
-    r = beginRule (h .lent) (deskIn (h .words))
-
-    hands : Hands (r .0 .0) (r .0 .2) (deskIn (h .words))
-    hands = hands-begin (h .lent) (deskIn (h .words)) (said-long (h .words) long)
-call-step h long (next x) = record {
-  leaves = ap (world (h .lent)) (desk-on (h .words) long (r .0) (r .1) hands);
-  tells = refl;
-  worded = words-on (h .words) long (r .0) (r .1) hands;
-}
-  where
-    r : ℕ × Desk
-    r = nextRule (h .lent) (deskIn (h .words)) x
-
-    hands : Hands (r .0) (r .1) (deskIn (h .words))
-    hands = hands-next (h .lent) (deskIn (h .words)) (said-long (h .words) long) x
-call-step h long (insert x y) = record { leaves = refl; tells = refl; worded = long }
-call-step h long (update x q y) = record { leaves = refl; tells = refl; worded = long }
-call-step h long (delete x q) = record { leaves = refl; tells = refl; worded = long }
-call-step h long (read x q) = record {
-  leaves = refl;
-  tells = ap (answered (r .0) (r .2) 0) (lies-bytes (r .1) (h .lent));
-  worded = long;
-}
-  where
-    r : ℕ × Place × ℕ
-    r = readRule (h .lent) (deskIn (h .words)) x q
-call-step h long (commit x) = record {
-  leaves = ap (world _) (desk-on (h .words) long (r .0 .0) (r .0 .1) hands);
-  tells = refl;
-  worded = words-on (h .words) long (r .0 .0) (r .0 .1) hands;
-}
-  where
-    r : (ℕ × Desk) × List ℕ
-    r = commitRule (h .lent) (deskIn (h .words)) x
-
-    hands : Hands (r .0 .0) (r .0 .1) (deskIn (h .words))
-    hands = hands-commit (h .lent) (deskIn (h .words)) (said-long (h .words) long) x
-call-step h long (withdraw x) = record {
-  leaves = ap (world _) (desk-on (h .words) long (r .0 .0) (r .0 .1) hands);
-  tells = refl;
-  worded = words-on (h .words) long (r .0 .0) (r .0 .1) hands;
-}
-  where
-    r : (ℕ × Desk) × Areas
-    r = withdrawRule (h .lent) (deskIn (h .words)) x
-
-    hands : Hands (r .0 .0) (r .0 .1) (deskIn (h .words))
-    hands = hands-withdraw (h .lent) (deskIn (h .words)) (said-long (h .words) long) x
-call-step h long (sweep first quota) = record { leaves = refl; tells = refl; worded = long }
+  pub call-step : (c : Call) → Steps h c
+  unfolding step bodyOf formatCall openCall sealCall beginCall nextCall insertCall updateCall deleteCall readCall commitCall withdrawCall sweepCall
+  call-step (format da un st) =
+      let hands = hands-format (areas da un st) d l in
+      record { leaves = format-on (h .words) long _ hands (h .lent); tells = refl; worded = words-on (h .words) long _ hands }
+  call-step opens =
+      let hands = hands-open (h .lent) d l in
+      record { leaves = desk-on (h .words) long _ hands; tells = refl; worded = words-on (h .words) long _ hands }
+  call-step seal = record { leaves = refl; tells = refl; worded = long }
+  call-step begin =
+      let hands = hands-begin (h .lent) d l in
+      record { leaves = desk-on (h .words) long _ hands; tells = refl; worded = words-on (h .words) long _ hands }
+  call-step (next x) =
+      let hands = hands-next (h .lent) d l x in
+      record { leaves = desk-on (h .words) long _ hands; tells = refl; worded = words-on (h .words) long _ hands }
+  call-step (insert x y) = record { leaves = refl; tells = refl; worded = long }
+  call-step (update x q y) = record { leaves = refl; tells = refl; worded = long }
+  call-step (delete x q) = record { leaves = refl; tells = refl; worded = long }
+  call-step (read x q) =
+      let r = readLeaves (h .lent) d x q in
+      record { leaves = refl; tells = ap (answered (r .code) (r .first) 0) (lies-bytes (r .place) (h .lent)); worded = long }
+  call-step (commit x) =
+      let hands = hands-commit (h .lent) d l x in
+      record { leaves = desk-on (h .words) long _ hands; tells = refl; worded = words-on (h .words) long _ hands }
+  call-step (withdraw x) =
+      let hands = hands-withdraw (h .lent) d l x in
+      record { leaves = desk-on (h .words) long _ hands; tells = refl; worded = words-on (h .words) long _ hands }
+  call-step (sweep first quota) = record { leaves = refl; tells = refl; worded = long }

@@ -14,10 +14,10 @@ use Rattle.columns.specs.Limits.{lastStatement}
 use Rattle.desk.specs.Sound.{sound}
 use Rattle.words.specs.Words.{all-words, deskIn}
 use Rattle.machine.specs.Table.{Body, History, plainTable, openIn}
-use Rattle.machine.specs.Lines.{Call, format, opens, seal, begin, next, insert, update, delete, read, commit, withdraw, sweep, Answer, isDone, isFormat, Line, historyOf}
+use Rattle.machine.specs.Lines.{Call, format, opens, seal, begin, next, insert, update, delete, read, commit, withdraw, sweep, Verdict, isDone, isFormat, Line, historyOf}
 use Rattle.history.specs.World.{World, world, answered}
-use Rattle.history.specs.Asked.{AllProper, Answers}
-use Rattle.station.specs.Station.{Left, formatCall, openCall, sealCall, beginCall, nextCall, insertCall, updateCall, deleteCall, readCall, commitCall, withdrawCall, sweepCall}
+use Rattle.history.specs.Asked.{AllProper, Matches}
+use Rattle.station.specs.Station.{Handed, formatCall, openCall, sealCall, beginCall, nextCall, insertCall, updateCall, deleteCall, readCall, commitCall, withdrawCall, sweepCall}
 
 -- what a station's program holds between two calls: the areas that it lends, and the words of the desk
 pub record Held : Type 0 where
@@ -30,7 +30,7 @@ held a w = record { lent = a; words = w }
 -- ---- one call
 
 -- the function that a call is made by, on what is held: its number, and what it leaves. A format is lent areas of its own choice
-abbrev pub asked : Held → Call → ℕ × Left
+abbrev pub asked : Held → Call → ℕ × Handed
 asked h (format d u s) = formatCall (areas d u s) (h .words)
 asked h opens = openCall (h .lent) (h .words)
 asked h seal = sealCall (h .lent) (h .words)
@@ -57,7 +57,7 @@ bytesAt area at a = cond (eqb area 1) (take 32 (drop at (a .«data»))) (cond (e
 
 -- what is told: refused under its number where that is not 0; else "begin the number, insert the row, read count and body, sweep next row and
 -- removed, the rest none", from the out array
-abbrev pub toldBy : Call → ℕ → List ℕ → Areas → Answer
+abbrev pub toldBy : Call → ℕ → List ℕ → Areas → Verdict
 toldBy (format d u s) n out a = answered n 0 0 []
 toldBy opens n out a = answered n 0 0 []
 toldBy seal n out a = answered n 0 0 []
@@ -71,7 +71,7 @@ toldBy (commit x) n out a = answered n 0 0 []
 toldBy (withdraw x) n out a = answered n 0 0 []
 toldBy (sweep first quota) n out a = answered n (getD out 0 0) (getD out 1 0) []
 
-abbrev pub told : Held → Call → Answer
+abbrev pub told : Held → Call → Verdict
 told h c = toldBy c (asked h c .0) (asked h c .1 .reported) (asked h c .1 .lent)
 
 -- the world behind what is held: the areas, and the desk that the words say
@@ -108,7 +108,7 @@ abbrev pub StationReading : Type 0
 StationReading = (h : Held) → Worded h → (cs : List Call) → AllProper cs → formatted h cs ≡ true
     → (n : ℕ) → openIn (historyBy h cs) n ≡ true
     → (r : ℕ) → r < rows (onwardAll h cs .lent .«data»)
-    → Answers (plainTable (historyBy h cs) n r) (told (onwardAll h cs) (read n r))
+    → Matches (plainTable (historyBy h cs) n r) (told (onwardAll h cs) (read n r))
 
 -- ---- a word that does not fit
 

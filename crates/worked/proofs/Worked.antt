@@ -29,6 +29,7 @@ use Rattle.desk.specs.Sound.{sound, soundColumns}
 use Rattle.desk.specs.Turns.{begun, closed, mark, viewAt}
 use Rattle.sight.specs.Conflict.{conflictOf, isDead, ofAnother}
 use Rattle.sight.specs.Sight.{committed, earlier, known, listed, sees, standing, there}
+use Rattle.chain.specs.declared.Place.the-variants.{Nowhere}
 use Rattle.chain.specs.Chain.{among, chainFrom, chainOf, unfit}
 use Rattle.chain.specs.Walk.{bodyOf, firstIn, walkRule}
 use Rattle.touching.specs.Touching.{withEntry, withMeta, withSlot}
@@ -44,13 +45,16 @@ use Rattle.sweeping.specs.Sweeping.{sweepRule, treated}
 use Rattle.rows.specs.Rows.{deleteRefusal, deleteRule, insertRefusal, insertRule, readRefusal, readRule, updateRefusal, updateRule, updated}
 use Rattle.lines.specs.Span.{lacks, parts}
 use Rattle.numeral.specs.Numeral.{bodyIn, digitsAlone, glyphOf, hexAlone, hexOf, isBody, nibbleOf, numberIn, numeralOf, pairs, saidFrom, spelled}
-use Rattle.line.specs.Line.{callOf, longest as longest-line, sameAs, verbIn, verbOf, wordOf}
+use Rattle.line.specs.Line.{commandOf, longest as longest-line, sameAs, verbIn, verbOf, wordOf}
 use Rattle.reply.specs.Reply.{answerLine, longest as longest-answer, tabbed}
-use Rattle.playing.specs.Playing.{Turn, turn, lineOf, beginTurn, commitTurn, deleteTurn, formatTurn, illTurn, insertTurn, playRule, readTurn, sweepTurn, updateTurn}
-use Rattle.script.specs.Script.{Carried, carried, isFormat, station, callIn, Run, ran, output, answers, dataLent, freshStation, lent, lined, named, restOf, rested, runLines, runRule, stepped, turnIn, undoLent}
-use Rattle.script.specs.declared.Station.{Station}
+use Rattle.calls.specs.Calls.{Left, left, sweepLeaves}
+use Rattle.playing.specs.Playing.{lineOf, playRule}
+use Rattle.script.specs.Script.{Carried, carried, isFormat, footing, commandIn, Portion, portion, output, answers, dataLent, freshFooting, lent, lined, named, restOf, rested, runLines, runRule, stepped, leftIn, lineIn, undoLent}
+use Rattle.script.specs.declared.Footing.{Footing}
 use Rattle.lines.proofs.Spans.{parts-joined}
-use Rattle.line.specs.declared.Call.{Call}
+use Rattle.line.specs.declared.Command.{Command}
+use Rattle.line.specs.declared.Verb.{Verb}
+use Rattle.line.specs.declared.Verb.the-variants.{Sweep}
 use Rattle.script.proofs.Promises.{answers-next, run-carries}
 use Rattle.worked.specs.Worked.{bytes, run, inputOf, outputOf, start}
 use Rattle.worked.proofs.Sweeps.{zeros, sweep-one}
@@ -58,7 +62,7 @@ use Rattle.worked.proofs.Sweeps.{zeros, sweep-one}
 -- ---- what is carried along
 
 -- the desk, and the one page of data and of undo that the run formats
-lentTo : Desk → Station
+lentTo : Desk → Footing
 lentTo d = record { desk = d; «data» = 8192; undo = 8192; long = false }
 
 -- a header: page 1, with the checksum that format wrote
@@ -114,7 +118,7 @@ swept-1 = carried (lentTo (freshDesk 4)) (areas (dataOf 0) undoFree (statusOf 0b
 
 -- every definition that they are computed with; of a checksum only that it is the same
 unfoldable rules : ℕ
-unfolding bytes run inputOf outputOf start lentTo headed dataOf undoOf undoFree statusOf updated-2 committed-2 committed-3 swept-1 allBelow countBelow firstFrom bytesOf digits little part lengthOk lengthsOk recordAt bitsIn putBitsIn putStatus statusAt atEntry leadOf leads pointerTo wellFormed clearEntry copyBodyAt entryAt entryOf putCopy putEntry bodyAt clearSlot putMeta putSlot slotAt slotOf counted inUse itemsIn touched pageAt putField blankPage freshPage markOf smallest without isOpen openCount placeIn ascending follows placed sessionSound freshDesk sound soundColumns begun closed mark viewAt conflictOf isDead ofAnother committed earlier known listed sees standing there among chainFrom chainOf unfit bodyOf firstIn walkRule withEntry withMeta withSlot deleted inserted updatedData updatedUndo cutCopy cutSlot sweptEntry sweptSlot lowestEmpty lowestFree breaks misses noRow says formatRefusal formatRule formatted freshArea beginRefusal beginRule commitRefusal commitRule sweptAll sweptBehind sweptRow sweptVersions treated deleteRefusal deleteRule insertRefusal insertRule readRefusal readRule updateRefusal updateRule updated parts bodyIn digitsAlone glyphOf hexAlone hexOf isBody nibbleOf numberIn numeralOf pairs saidFrom spelled callOf longest-line sameAs verbIn verbOf wordOf answerLine longest-answer tabbed beginTurn commitTurn deleteTurn formatTurn illTurn insertTurn playRule readTurn updateTurn answers dataLent freshStation lent lined named restOf rested runLines runRule stepped turnIn undoLent
+unfolding bytes run inputOf outputOf start lentTo headed dataOf undoOf undoFree statusOf updated-2 committed-2 committed-3 swept-1 allBelow countBelow firstFrom bytesOf digits little part lengthOk lengthsOk recordAt bitsIn putBitsIn putStatus statusAt atEntry leadOf leads pointerTo wellFormed clearEntry copyBodyAt entryAt entryOf putCopy putEntry bodyAt clearSlot putMeta putSlot slotAt slotOf counted inUse itemsIn touched pageAt putField blankPage freshPage markOf smallest without isOpen openCount placeIn ascending follows placed sessionSound freshDesk sound soundColumns begun closed mark viewAt conflictOf isDead ofAnother committed earlier known listed sees standing there among chainFrom chainOf unfit bodyOf firstIn walkRule withEntry withMeta withSlot deleted inserted updatedData updatedUndo cutCopy cutSlot sweptEntry sweptSlot lowestEmpty lowestFree breaks misses noRow says formatRefusal formatRule formatted freshArea beginRefusal beginRule commitRefusal commitRule sweptAll sweptBehind sweptRow sweptVersions treated deleteRefusal deleteRule insertRefusal insertRule readRefusal readRule updateRefusal updateRule updated parts bodyIn digitsAlone glyphOf hexAlone hexOf isBody nibbleOf numberIn numeralOf pairs saidFrom spelled commandOf longest-line sameAs verbIn verbOf wordOf answerLine longest-answer tabbed playRule answers dataLent freshFooting lent lined named restOf rested runLines runRule stepped leftIn undoLent
 rules = 0
 
 -- what is left of the run behind line 7, 12, 13, 14, 15
@@ -134,18 +138,18 @@ abbrev after-15 : List (List ℕ × List ℕ)
 after-15 = drop 1 after-14
 
 -- a piece is run to its end, says its answers and carries that on
-abbrev Runs : Carried → List (List ℕ × List ℕ) → Carried → Type 0
-Runs k p on = runRule k (inputOf p) false 4096 ≡ ran (outputOf p) (length (inputOf p)) on
+abbrev Leads : Carried → List (List ℕ × List ℕ) → Carried → Type 0
+Leads k p on = runRule k (inputOf p) false 4096 ≡ portion (outputOf p) (length (inputOf p)) on
 
-lines-1 : Runs start (take 7 run) updated-2
+lines-1 : Leads start (take 7 run) updated-2
 unfolding rules
 lines-1 = refl
 
-lines-8 : Runs updated-2 (take 5 after-7) committed-2
+lines-8 : Leads updated-2 (take 5 after-7) committed-2
 unfolding rules
 lines-8 = refl
 
-line-14 : Runs committed-2 (take 1 after-13) committed-3
+line-14 : Leads committed-2 (take 1 after-13) committed-3
 unfolding rules
 line-14 = refl
 
@@ -157,37 +161,39 @@ lines-16 = refl
 
 -- a line is played: it answers so, and that is carried on
 abbrev Plays : Carried → List ℕ × List ℕ → Carried → Type 0
-Plays k x on = (lineOf (turnIn k (callIn k (x .0))) ≡ x .1 ++ (10 ∷ [])) × (stepped k (callIn k (x .0)) ≡ on)
+Plays k x on = (lineIn k (commandIn k (x .0)) ≡ x .1 ++ (10 ∷ [])) × (stepped k (commandIn k (x .0)) ≡ on)
 
--- what is carried on behind a turn
-abbrev behind : Carried → Call → Turn → Carried
-behind k c t =
-    let n = dataLent c (k .station) (k .lent .«data») in
-    let m = undoLent c (k .station) (k .lent .undo) in
+-- what is carried on behind a call
+abbrev behind : Carried → Command → Left → Carried
+behind k c l =
+    let n = dataLent c (k .footing) (k .lent .«data») in
+    let m = undoLent c (k .footing) (k .lent .undo) in
     carried
-    (station t (isFormat (c .verb)) n m (k .station))
-    (areas (t .left .«data» ++ drop n (k .lent .«data»)) (t .left .undo ++ drop m (k .lent .undo)) (t .left .status))
+    (footing l (isFormat (c .verb)) n m (k .footing))
+    (areas (l .lent .«data» ++ drop n (k .lent .«data»)) (l .lent .undo ++ drop m (k .lent .undo)) (l .lent .status))
 
-stepped-behind : (k : Carried) (c : Call) → stepped k c ≡ behind k c (turnIn k c)
+stepped-behind : (k : Carried) (c : Command) → stepped k c ≡ behind k c (leftIn k c)
 unfolding stepped
 stepped-behind k c = refl
 
-sweep-turn : (a left : Areas) (d : Desk) (removed : ℕ) → sweepRule a d 0 127 ≡ ((0, 127, removed), left)
-    → sweepTurn a d 0 127 ≡ turn 0 (numeralOf 127 ∷ numeralOf removed ∷ []) d left
-unfolding sweepTurn
-sweep-turn a left d removed e =
-    ap (λ (r : (ℕ × ℕ × ℕ) × Areas). turn (r .0 .0) (numeralOf (r .0 .1) ∷ numeralOf (r .0 .2) ∷ []) d (r .1)) e
+-- a sweep that reports next row 127
+abbrev swept : Areas → Desk → ℕ → Left
+swept a d removed = left 0 127 removed Nowhere a d
 
-sweep-plays : (k on : Carried) (x : List ℕ × List ℕ) (a left : Areas) (removed : ℕ)
-    → turnIn k (callIn k (x .0)) ≡ sweepTurn a (k .station .desk) 0 127
-    → sweepRule a (k .station .desk) 0 127 ≡ ((0, 127, removed), left)
+sweep-plays : (k on : Carried) (x : List ℕ × List ℕ) (a after : Areas) (removed : ℕ)
+    → commandIn k (x .0) .verb ≡ Sweep
+    → leftIn k (commandIn k (x .0)) ≡ sweepLeaves a (k .footing .desk) 0 127
+    → sweepRule a (k .footing .desk) 0 127 ≡ ((0, 127, removed), after)
     → answerLine 0 (numeralOf 127 ∷ numeralOf removed ∷ []) ≡ x .1 ++ (10 ∷ [])
-    → behind k (callIn k (x .0)) (turn 0 (numeralOf 127 ∷ numeralOf removed ∷ []) (k .station .desk) left) ≡ on
+    → behind k (commandIn k (x .0)) (swept after (k .footing .desk) removed) ≡ on
     → Plays k x on
-sweep-plays k on x a left removed is rule says on-is = (ap lineOf played ∙ says, stepped-behind k (callIn k (x .0)) ∙ ap (behind k (callIn k (x .0))) played ∙ on-is)
+sweep-plays k on x a after removed named is rule says on-is = (
+  ap (λ (v : Verb). lineOf v (leftIn k (commandIn k (x .0)))) named ∙ ap (lineOf Sweep) played ∙ says,
+  stepped-behind k (commandIn k (x .0)) ∙ ap (behind k (commandIn k (x .0))) played ∙ on-is,
+)
   where
-    played : turnIn k (callIn k (x .0)) ≡ turn 0 (numeralOf 127 ∷ numeralOf removed ∷ []) (k .station .desk) left
-    played = is ∙ sweep-turn a left (k .station .desk) removed rule
+    played : leftIn k (commandIn k (x .0)) ≡ swept after (k .footing .desk) removed
+    played = is ∙ ap (λ (r : (ℕ × ℕ × ℕ) × Areas). left (r .0 .0) (r .0 .1) (r .0 .2) Nowhere (r .1) (k .footing .desk)) rule
 
 -- "`sweep 0 127`→`0 127 0`", and "`sweep 0 127`→`0 127 1`"
 abbrev sweep-none : List ℕ × List ℕ
@@ -206,8 +212,8 @@ line-13 =
     let d = page (dataOf (pointerAt 1 48)) in
     let u = page undoOf in
     let s = statusOf 0b00_01_01_00 in
-    sweep-plays committed-2 committed-2 sweep-none (areas d u s) (areas d u s) 0 refl
-    (sweep-one d u s d u (committed-2 .station .desk) 2 2 refl refl refl refl refl refl refl refl refl)
+    sweep-plays committed-2 committed-2 sweep-none (areas d u s) (areas d u s) 0 refl refl
+    (sweep-one d u s d u (committed-2 .footing .desk) 2 2 refl refl refl refl refl refl refl refl refl)
     refl
     refl
 
@@ -219,8 +225,8 @@ line-15 =
     let d′ = page (dataOf 0) in
     let u′ = page undoFree in
     let s = statusOf 0b01_01_01_00 in
-    sweep-plays committed-3 swept-1 sweep-some (areas d u s) (areas d′ u′ s) 1 refl
-    (sweep-one d u s d′ u′ (committed-3 .station .desk) 2 1 refl refl refl refl refl refl refl refl refl)
+    sweep-plays committed-3 swept-1 sweep-some (areas d u s) (areas d′ u′ s) 1 refl refl
+    (sweep-one d u s d′ u′ (committed-3 .footing .desk) 2 1 refl refl refl refl refl refl refl refl refl)
     refl
     refl
 
@@ -238,7 +244,7 @@ then-line p x k on is lone plays left =
     ap (λ (q : List (List ℕ × List ℕ)). output k (inputOf q)) is
     ∙ ap (answers k) (parts-joined 10 (x .0) (inputOf (drop 1 p)) lone)
     ∙ answers-next k (x .0) 10 (inputOf (drop 1 p))
-    ∙ ap (λ (l : List ℕ). l ++ output (stepped k (callIn k (x .0))) (inputOf (drop 1 p))) (plays .0)
+    ∙ ap (λ (l : List ℕ). l ++ output (stepped k (commandIn k (x .0))) (inputOf (drop 1 p))) (plays .0)
     ∙ ap (λ (q : Carried). (x .1 ++ (10 ∷ [])) ++ output q (inputOf (drop 1 p))) (plays .1)
     ∙ ap (λ (l : List ℕ). (x .1 ++ (10 ∷ [])) ++ l) left
     ∙ append-assoc (x .1) (10 ∷ []) (outputOf (drop 1 p))
@@ -267,12 +273,12 @@ output-cut (suc n) (x ∷ p) =
     append-assoc (x .1) (10 ∷ outputOf (take n p)) (outputOf (drop n p)) ∙ ap (λ (l : List ℕ). x .1 ++ (10 ∷ l)) (output-cut n p)
 
 -- a piece, and then what is left
-then : (n : ℕ) (p : List (List ℕ × List ℕ)) (k on : Carried) → Runs k (take n p) on → output on (inputOf (drop n p)) ≡ outputOf (drop n p)
+then : (n : ℕ) (p : List (List ℕ × List ℕ)) (k on : Carried) → Leads k (take n p) on → output on (inputOf (drop n p)) ≡ outputOf (drop n p)
     → output k (inputOf p) ≡ outputOf p
 then n p k on is behind =
     ap (output k) (sym (input-cut n p))
     ∙ run-carries k (inputOf (take n p)) (inputOf (drop n p)) 4096
-    ∙ ap (λ (w : Run). w .said ++ output (w .on) (drop (w .taken) (inputOf (take n p)) ++ inputOf (drop n p))) is
+    ∙ ap (λ (w : Portion). w .said ++ output (w .on) (drop (w .taken) (inputOf (take n p)) ++ inputOf (drop n p))) is
     ∙ ap (λ (l : List ℕ). outputOf (take n p) ++ output on (l ++ inputOf (drop n p))) (drop-length (inputOf (take n p)))
     ∙ ap (λ (l : List ℕ). outputOf (take n p) ++ l) behind
     ∙ output-cut n p

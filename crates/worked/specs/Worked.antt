@@ -5,7 +5,7 @@ use Prim.Native.String.{String, [] as none, _∷_ as _then_}
 use mathlib.Core.List.{List, [], _∷_, _++_}
 use lib.ListN.{replicate}
 use Rattle.kind.specs.Areas.{areas}
-use Rattle.script.specs.Script.{Carried, carried, freshStation}
+use Rattle.script.specs.Script.{Carried, carried, freshFooting}
 
 -- the bytes of a text whose characters are bytes
 unfoldable pub bytes : String → List ℕ
@@ -52,4 +52,4 @@ outputOf (p ∷ ps) = p .1 ++ (10 ∷ outputOf ps)
 
 -- before the first line: 3 pages of data and of undo lent, 1 of status, all zeros
 unfoldable pub start : Carried
-start = carried freshStation (areas (replicate 24576 0) (replicate 24576 0) (replicate 8192 0))
+start = carried freshFooting (areas (replicate 24576 0) (replicate 24576 0) (replicate 8192 0))

@@ -33,24 +33,24 @@ fresh-requires c κs = search needs
 loop-holds : tie.Need-loop-holds Inv-loop μ-loop
 loop-holds c = search needs
 
-slice-aggregate-turn : tie.Need-slice-aggregate-turn Inv-loop μ-loop
-slice-aggregate-turn c = search needs
+slice-aggregate-round : tie.Need-slice-aggregate-round Inv-loop μ-loop
+slice-aggregate-round c = search needs
 
-slice-aggregate-turn-2 : tie.Need-slice-aggregate-turn-2 Inv-loop μ-loop
-slice-aggregate-turn-2 c = search needs
+slice-aggregate-round-2 : tie.Need-slice-aggregate-round-2 Inv-loop μ-loop
+slice-aggregate-round-2 c = search needs
 
-slice-aggregate-turn-3 : tie.Need-slice-aggregate-turn-3 Inv-loop μ-loop
-slice-aggregate-turn-3 c = search needs
+slice-aggregate-round-3 : tie.Need-slice-aggregate-round-3 Inv-loop μ-loop
+slice-aggregate-round-3 c = search needs
 
-slice-aggregate-turn-4 : tie.Need-slice-aggregate-turn-4 Inv-loop μ-loop
-slice-aggregate-turn-4 c = search needs
+slice-aggregate-round-4 : tie.Need-slice-aggregate-round-4 Inv-loop μ-loop
+slice-aggregate-round-4 c = search needs
 
-slice-aggregate-turn-5 : tie.Need-slice-aggregate-turn-5 Inv-loop μ-loop
-slice-aggregate-turn-5 c = search needs
+slice-aggregate-round-5 : tie.Need-slice-aggregate-round-5 Inv-loop μ-loop
+slice-aggregate-round-5 c = search needs
 
-turn-requires : tie.Need-turn-requires Inv-loop μ-loop
+round-requires : tie.Need-round-requires Inv-loop μ-loop
 unfolding longest longestAnswer
-turn-requires c κs = search needs
+round-requires c κs = search needs
 
 returns : tie.Need-returns Inv-loop μ-loop
 returns c = search needs
@@ -66,7 +66,7 @@ more true e = refl
 more false e = absurd (true≢false e)
 
 loop-again : tie.Need-loop-again Inv-loop μ-loop
-loop-again c = (c .before .before .before .before .before .before .before .before .turn .ensures .1 (more _ (c .before .if1 .left)), search needs, search needs, search needs, search needs, search needs)
+loop-again c = (c .before .before .before .before .before .before .before .before .round .ensures .1 (more _ (c .before .if1 .left)), search needs, search needs, search needs, search needs, search needs)
 
 returns-2 : tie.Need-returns-2 Inv-loop μ-loop
 returns-2 c = search needs
@@ -81,12 +81,12 @@ feed-spec =
     large-buffer-requires-2
     fresh-requires
     loop-holds
-    slice-aggregate-turn
-    slice-aggregate-turn-2
-    slice-aggregate-turn-3
-    slice-aggregate-turn-4
-    slice-aggregate-turn-5
-    turn-requires
+    slice-aggregate-round
+    slice-aggregate-round-2
+    slice-aggregate-round-3
+    slice-aggregate-round-4
+    slice-aggregate-round-5
+    round-requires
     returns
     sub-left
     loop-less

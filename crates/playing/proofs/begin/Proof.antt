@@ -3,7 +3,8 @@ use Prim.Native.Nat.{ℕ}
 use mathlib.Core.Path.{ap, _∙_}
 use Rattle.desk.specs.declared.Desk.{Desk}
 use Rattle.kind.specs.Areas.{areas}
-use Rattle.playing.specs.Playing.{number, beginTurn}
+use Rattle.calls.specs.Calls.{beginLeaves}
+use Rattle.playing.specs.Playing.{number}
 use Rattle.playing.proofs.Playings.{plays, on-desk}
 use borrow.Author.Needs.{needs}
 use Rattle.playing.proofs.begin.Statement.{statement}
@@ -31,12 +32,11 @@ same-length-2 : tie.Need-same-length-2
 same-length-2 c = search needs
 
 returns : tie.Need-returns
-unfolding beginTurn
 returns c =
     let start = c .before .before .before .before .before .before .before .before .before .before .before .before .before .before .before .before .before .args in
     let came = areas (start .«data» .now) (start .undo .now) (start .status .now) in
     let done = c .before .before .before .before .before .before .before .before .before .begin .ensures .0 in
-    on-desk (beginTurn came) (c .before .before .before .before .before .before .before .before .before .before .before .before .words-of .ensures .1) (plays _ _ _ _ _ _ _ (c .before .before .before .before .code .ensures ∙ ap (λ (y : ℕ × ℕ × Desk). y .0) (done .answers)) (ap (λ (y : ℕ × ℕ × Desk). number (y .1)) (done .answers)) (c .before .before .before .before .before .desk-left .ensures ∙ ap (λ (y : ℕ × ℕ × Desk). y .2) (done .answers)) (ap (areas (start .«data» .now) (start .undo .now)) (done .leaves)) (c .before .before .numbered .ensures))
+    on-desk (beginLeaves came) (c .before .before .before .before .before .before .before .before .before .before .before .before .words-of .ensures .1) (plays _ _ _ _ _ _ _ (c .before .before .before .before .code .ensures ∙ ap (λ (y : ℕ × ℕ × Desk). y .0) (done .answers)) (ap (λ (y : ℕ × ℕ × Desk). number (y .1)) (done .answers)) (c .before .before .before .before .before .desk-left .ensures ∙ ap (λ (y : ℕ × ℕ × Desk). y .2) (done .answers)) (ap (areas (start .«data» .now) (start .undo .now)) (done .leaves)) (c .before .before .numbered .ensures))
 
 pub begin-spec : {M : Type 1} → statement M
 begin-spec =

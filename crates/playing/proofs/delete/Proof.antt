@@ -4,7 +4,7 @@ use mathlib.Core.Path.{refl, sym, ap, _∙_}
 use mathlib.Core.List.{List}
 use Rattle.desk.specs.declared.Desk.{Desk}
 use Rattle.kind.specs.Areas.{areas}
-use Rattle.playing.specs.Playing.{deleteTurn}
+use Rattle.calls.specs.Calls.{deleteLeaves}
 use Rattle.playing.proofs.Playings.{plays, on-desk}
 use borrow.Author.Needs.{needs}
 use Rattle.playing.proofs.delete.Statement.{statement}
@@ -29,13 +29,12 @@ same-length-2 : tie.Need-same-length-2
 same-length-2 c = search needs
 
 returns : tie.Need-returns
-unfolding deleteTurn
 returns c =
     let start = c .before .before .before .before .before .before .before .before .before .before .before .before .before .before .before .args in
     let came = areas (start .«data» .now) (start .undo .now) (start .status .now) in
     let same = c .before .before .before .before .before .before .before .before .before .before .words-of .ensures .1 in
     let done = c .before .before .before .before .before .before .before .delete .ensures in
-    on-desk (λ (d : Desk). deleteTurn came d (start .session) (start .row)) same (plays _ _ _ _ _ _ _ (c .before .before .before .before .code .ensures ∙ done .answers) refl (sym same) (ap (λ (d : List ℕ). areas d (start .undo .now) (start .status .now)) (done .leaves)) (c .before .before .plain .ensures))
+    on-desk (λ (d : Desk). deleteLeaves came d (start .session) (start .row)) same (plays _ _ _ _ _ _ _ (c .before .before .before .before .code .ensures ∙ done .answers) refl (sym same) (ap (λ (d : List ℕ). areas d (start .undo .now) (start .status .now)) (done .leaves)) (c .before .before .plain .ensures))
 
 pub delete-spec : {M : Type 1} → statement M
 delete-spec =

@@ -2,7 +2,6 @@
 use Prim.Native.Nat.{ℕ}
 use mathlib.Core.Path.{refl, sym, ap, _∙_}
 use Rattle.desk.specs.declared.Desk.{Desk}
-use Rattle.playing.specs.Playing.{formatTurn}
 use Rattle.ground.proofs.Refusals.{kept-new, kept-old}
 use Rattle.playing.proofs.Playings.{plays}
 use borrow.Author.Needs.{needs}
@@ -31,7 +30,6 @@ same-length-4 : tie.Need-same-length-4
 same-length-4 c = search needs
 
 returns : tie.Need-returns
-unfolding formatTurn
 returns c =
     let done = c .before .before .before .before .before .before .before .before .before .before .before .before .before .format .ensures in
     plays _ _ _ _ _ _ _ (c .before .before .before .before .before .code .ensures ∙ ap (λ (y : ℕ × Desk). y .0) (done .answers)) refl (ap (λ (y : ℕ × Desk). y .1) (done .answers) ∙ kept-new _ _ _ (sym (c .before .before .before .before .before .code .ensures ∙ ap (λ (y : ℕ × Desk). y .0) (done .answers)) ∙ c .if1 .taken)) (done .leaves) (c .before .before .before .plain .ensures)
@@ -49,7 +47,6 @@ same-length-8 : tie.Need-same-length-8
 same-length-8 c = search needs
 
 returns-2 : tie.Need-returns-2
-unfolding formatTurn
 returns-2 c =
     let done = c .before .before .before .before .before .before .before .before .before .before .before .before .before .format .ensures in
     plays _ _ _ _ _ _ _ (c .before .before .before .before .before .code .ensures ∙ ap (λ (y : ℕ × Desk). y .0) (done .answers)) refl (kept-old _ _ _ (λ e. c .if1 .left ((c .before .before .before .before .before .code .ensures ∙ ap (λ (y : ℕ × Desk). y .0) (done .answers)) ∙ e))) (done .leaves) (c .before .before .before .plain .ensures)

@@ -4,7 +4,8 @@ use mathlib.Core.Path.{sym, ap, _∙_}
 use mathlib.Core.List.{List}
 use Rattle.desk.specs.declared.Desk.{Desk}
 use Rattle.kind.specs.Areas.{areas}
-use Rattle.playing.specs.Playing.{number, insertTurn}
+use Rattle.calls.specs.Calls.{insertLeaves}
+use Rattle.playing.specs.Playing.{number}
 use Rattle.playing.proofs.Playings.{plays, on-desk}
 use borrow.Author.Needs.{needs}
 use Rattle.playing.proofs.insert.Statement.{statement}
@@ -29,13 +30,12 @@ same-length-2 : tie.Need-same-length-2
 same-length-2 c = search needs
 
 returns : tie.Need-returns
-unfolding insertTurn
 returns c =
     let start = c .before .before .before .before .before .before .before .before .before .before .before .before .before .before .before .before .args in
     let came = areas (start .«data» .now) (start .undo .now) (start .status .now) in
     let same = c .before .before .before .before .before .before .before .before .before .before .words-of .ensures .1 in
     let done = c .before .before .before .before .before .before .before .insert .ensures in
-    on-desk (λ (d : Desk). insertTurn came d (start .session) (start .body .now)) same (plays _ _ _ _ _ _ _ (c .before .before .before .before .code .ensures ∙ ap (λ (y : ℕ × ℕ). y .0) (done .answers)) (ap (λ (y : ℕ × ℕ). number (y .1)) (done .answers)) (sym same) (ap (λ (d : List ℕ). areas d (start .undo .now) (start .status .now)) (done .leaves)) (c .before .before .numbered .ensures))
+    on-desk (λ (d : Desk). insertLeaves came d (start .session) (start .body .now)) same (plays _ _ _ _ _ _ _ (c .before .before .before .before .code .ensures ∙ ap (λ (y : ℕ × ℕ). y .0) (done .answers)) (ap (λ (y : ℕ × ℕ). number (y .1)) (done .answers)) (sym same) (ap (λ (d : List ℕ). areas d (start .undo .now) (start .status .now)) (done .leaves)) (c .before .before .numbered .ensures))
 
 pub insert-spec : {M : Type 1} → statement M
 insert-spec =

@@ -3,7 +3,7 @@ use Prim.Native.Nat.{ℕ}
 use mathlib.Core.Path.{refl, ap, _∙_}
 use Rattle.desk.specs.declared.Desk.{Desk}
 use Rattle.kind.specs.Areas.{areas}
-use Rattle.playing.specs.Playing.{nextTurn}
+use Rattle.calls.specs.Calls.{nextLeaves}
 use Rattle.playing.proofs.Playings.{plays, on-desk}
 use borrow.Author.Needs.{needs}
 use Rattle.playing.proofs.next.Statement.{statement}
@@ -28,12 +28,11 @@ same-length : tie.Need-same-length
 same-length c = search needs
 
 returns : tie.Need-returns
-unfolding nextTurn
 returns c =
     let start = c .before .before .before .before .before .before .before .before .before .before .before .before .before .before .args in
     let came = areas (start .«data» .now) (start .undo .now) (start .status .now) in
     let done = c .before .before .before .before .before .before .before .next .ensures .0 in
-    on-desk (λ (d : Desk). nextTurn came d (start .session)) (c .before .before .before .before .before .before .before .before .before .words-of .ensures .1) (plays _ _ _ _ _ _ _ (c .before .before .before .before .code .ensures ∙ ap (λ (y : ℕ × Desk). y .0) done) refl (c .before .before .before .before .before .desk-left .ensures ∙ ap (λ (y : ℕ × Desk). y .1) done) refl (c .before .before .plain .ensures))
+    on-desk (λ (d : Desk). nextLeaves came d (start .session)) (c .before .before .before .before .before .before .before .before .before .words-of .ensures .1) (plays _ _ _ _ _ _ _ (c .before .before .before .before .code .ensures ∙ ap (λ (y : ℕ × Desk). y .0) done) refl (c .before .before .before .before .before .desk-left .ensures ∙ ap (λ (y : ℕ × Desk). y .1) done) refl (c .before .before .plain .ensures))
 
 pub next-spec : {M : Type 1} → statement M
 next-spec =

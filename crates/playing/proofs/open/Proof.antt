@@ -2,7 +2,6 @@
 use Prim.Native.Nat.{ℕ}
 use mathlib.Core.Path.{refl, sym, ap, _∙_}
 use Rattle.desk.specs.declared.Desk.{Desk}
-use Rattle.playing.specs.Playing.{openTurn}
 use Rattle.ground.proofs.Refusals.{kept-new, kept-old}
 use Rattle.playing.proofs.Playings.{plays}
 use borrow.Author.Needs.{needs}
@@ -22,7 +21,6 @@ same-length : tie.Need-same-length
 same-length c = search needs
 
 returns : tie.Need-returns
-unfolding openTurn
 returns c =
     let done = c .before .before .before .before .before .before .before .«open» .ensures in
     plays _ _ _ _ _ _ _ (c .before .before .before .before .before .code .ensures ∙ ap (λ (y : ℕ × Desk). y .0) done) refl (ap (λ (y : ℕ × Desk). y .1) done ∙ kept-new _ _ _ (sym (c .before .before .before .before .before .code .ensures ∙ ap (λ (y : ℕ × Desk). y .0) done) ∙ c .if1 .taken)) refl (c .before .before .before .plain .ensures)
@@ -31,7 +29,6 @@ same-length-2 : tie.Need-same-length-2
 same-length-2 c = search needs
 
 returns-2 : tie.Need-returns-2
-unfolding openTurn
 returns-2 c =
     let done = c .before .before .before .before .before .before .before .«open» .ensures in
     plays _ _ _ _ _ _ _ (c .before .before .before .before .before .code .ensures ∙ ap (λ (y : ℕ × Desk). y .0) done) refl (kept-old _ _ _ (λ e. c .if1 .left ((c .before .before .before .before .before .code .ensures ∙ ap (λ (y : ℕ × Desk). y .0) done) ∙ e))) refl (c .before .before .before .plain .ensures)

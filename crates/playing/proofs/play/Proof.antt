@@ -1,6 +1,5 @@
 -- `playing::play` meets its contract: by the name, one call. Assumes nothing.
 use mathlib.Core.Path.{refl}
-use Rattle.playing.specs.Playing.{illTurn}
 use Rattle.playing.proofs.Playings.{plays, play-by}
 use borrow.Author.Needs.{needs}
 use Rattle.playing.proofs.play.Statement.{statement}
@@ -103,7 +102,7 @@ same-length-4 : tie.Need-same-length-4
 same-length-4 c = search needs
 
 returns : tie.Need-returns
-returns c = play-by _ _ _ (c .before .before .before .before .before .before .before .before .before .before .before .before .before .before .before .before .before .before .before .before .args .call) _ _ _ _ _ (c .before .before .before .before .before .before .before .before .before .before .before .before .before .enum-told .given .1) (c .before .before .before .before .before .before .before .before .format .ensures)
+returns c = play-by _ _ _ (c .before .before .before .before .before .before .before .before .before .before .before .before .before .before .before .before .before .before .before .before .args .command) _ _ _ _ _ (c .before .before .before .before .before .before .before .before .before .before .before .before .before .enum-told .given .1) (c .before .before .before .before .before .before .before .before .format .ensures)
 
 same-length-5 : tie.Need-same-length-5
 same-length-5 c = search needs
@@ -118,7 +117,7 @@ same-length-8 : tie.Need-same-length-8
 same-length-8 c = search needs
 
 returns-2 : tie.Need-returns-2
-returns-2 c = play-by _ _ _ (c .before .before .before .before .before .before .before .before .before .before .before .before .before .before .args .call) _ _ _ _ _ (c .before .before .before .before .before .before .before .enum-told2 .given .1) (c .before .before .«open» .ensures)
+returns-2 c = play-by _ _ _ (c .before .before .before .before .before .before .before .before .before .before .before .before .before .before .args .command) _ _ _ _ _ (c .before .before .before .before .before .before .before .enum-told2 .given .1) (c .before .before .«open» .ensures)
 
 same-length-9 : tie.Need-same-length-9
 same-length-9 c = search needs
@@ -133,7 +132,7 @@ same-length-12 : tie.Need-same-length-12
 same-length-12 c = search needs
 
 returns-3 : tie.Need-returns-3
-returns-3 c = play-by _ _ _ (c .before .before .before .before .before .before .before .before .before .before .before .before .before .before .before .before .before .before .before .before .args .call) _ _ _ _ _ (c .before .before .before .before .before .before .before .before .before .before .before .before .before .enum-told3 .given .1) (c .before .before .before .before .before .before .before .before .seal .ensures)
+returns-3 c = play-by _ _ _ (c .before .before .before .before .before .before .before .before .before .before .before .before .before .before .before .before .before .before .before .before .args .command) _ _ _ _ _ (c .before .before .before .before .before .before .before .before .before .before .before .before .before .enum-told3 .given .1) (c .before .before .before .before .before .before .before .before .seal .ensures)
 
 same-length-13 : tie.Need-same-length-13
 same-length-13 c = search needs
@@ -148,7 +147,7 @@ same-length-16 : tie.Need-same-length-16
 same-length-16 c = search needs
 
 returns-4 : tie.Need-returns-4
-returns-4 c = play-by _ _ _ (c .before .before .before .before .before .before .before .before .before .before .before .before .before .before .before .before .args .call) _ _ _ _ _ (c .before .before .before .before .before .before .before .before .before .enum-told4 .given .1) (c .before .before .before .before .begin .ensures)
+returns-4 c = play-by _ _ _ (c .before .before .before .before .before .before .before .before .before .before .before .before .before .before .before .before .args .command) _ _ _ _ _ (c .before .before .before .before .before .before .before .before .before .enum-told4 .given .1) (c .before .before .before .before .begin .ensures)
 
 same-length-17 : tie.Need-same-length-17
 same-length-17 c = search needs
@@ -163,7 +162,7 @@ same-length-20 : tie.Need-same-length-20
 same-length-20 c = search needs
 
 returns-5 : tie.Need-returns-5
-returns-5 c = play-by _ _ _ (c .before .before .before .before .before .before .before .before .before .before .before .before .before .before .args .call) _ _ _ _ _ (c .before .before .before .before .before .before .before .enum-told5 .given .1) (c .before .before .next .ensures)
+returns-5 c = play-by _ _ _ (c .before .before .before .before .before .before .before .before .before .before .before .before .before .before .args .command) _ _ _ _ _ (c .before .before .before .before .before .before .before .enum-told5 .given .1) (c .before .before .next .ensures)
 
 same-length-21 : tie.Need-same-length-21
 same-length-21 c = search needs
@@ -178,7 +177,7 @@ same-length-24 : tie.Need-same-length-24
 same-length-24 c = search needs
 
 returns-6 : tie.Need-returns-6
-returns-6 c = play-by _ _ _ (c .before .before .before .before .before .before .before .before .before .before .before .before .before .before .before .before .before .args .call) _ _ _ _ _ (c .before .before .before .before .before .before .before .before .before .before .enum-told6 .given .1) (c .before .before .before .before .insert .ensures)
+returns-6 c = play-by _ _ _ (c .before .before .before .before .before .before .before .before .before .before .before .before .before .before .before .before .before .args .command) _ _ _ _ _ (c .before .before .before .before .before .before .before .before .before .before .enum-told6 .given .1) (c .before .before .before .before .insert .ensures)
 
 same-length-25 : tie.Need-same-length-25
 same-length-25 c = search needs
@@ -193,7 +192,7 @@ same-length-28 : tie.Need-same-length-28
 same-length-28 c = search needs
 
 returns-7 : tie.Need-returns-7
-returns-7 c = play-by _ _ _ (c .before .before .before .before .before .before .before .before .before .before .before .before .before .before .before .before .before .before .before .args .call) _ _ _ _ _ (c .before .before .before .before .before .before .before .before .before .before .before .before .enum-told7 .given .1) (c .before .before .before .before .before .before .update .ensures)
+returns-7 c = play-by _ _ _ (c .before .before .before .before .before .before .before .before .before .before .before .before .before .before .before .before .before .before .before .args .command) _ _ _ _ _ (c .before .before .before .before .before .before .before .before .before .before .before .before .enum-told7 .given .1) (c .before .before .before .before .before .before .update .ensures)
 
 same-length-29 : tie.Need-same-length-29
 same-length-29 c = search needs
@@ -208,7 +207,7 @@ same-length-32 : tie.Need-same-length-32
 same-length-32 c = search needs
 
 returns-8 : tie.Need-returns-8
-returns-8 c = play-by _ _ _ (c .before .before .before .before .before .before .before .before .before .before .before .before .before .before .before .before .args .call) _ _ _ _ _ (c .before .before .before .before .before .before .before .before .before .enum-told8 .given .1) (c .before .before .before .before .delete .ensures)
+returns-8 c = play-by _ _ _ (c .before .before .before .before .before .before .before .before .before .before .before .before .before .before .before .before .args .command) _ _ _ _ _ (c .before .before .before .before .before .before .before .before .before .enum-told8 .given .1) (c .before .before .before .before .delete .ensures)
 
 same-length-33 : tie.Need-same-length-33
 same-length-33 c = search needs
@@ -223,7 +222,7 @@ same-length-36 : tie.Need-same-length-36
 same-length-36 c = search needs
 
 returns-9 : tie.Need-returns-9
-returns-9 c = play-by _ _ _ (c .before .before .before .before .before .before .before .before .before .before .before .before .before .before .args .call) _ _ _ _ _ (c .before .before .before .before .before .before .before .enum-told9 .given .1) (c .before .before .read .ensures)
+returns-9 c = play-by _ _ _ (c .before .before .before .before .before .before .before .before .before .before .before .before .before .before .args .command) _ _ _ _ _ (c .before .before .before .before .before .before .before .enum-told9 .given .1) (c .before .before .read .ensures)
 
 same-length-37 : tie.Need-same-length-37
 same-length-37 c = search needs
@@ -238,7 +237,7 @@ same-length-40 : tie.Need-same-length-40
 same-length-40 c = search needs
 
 returns-10 : tie.Need-returns-10
-returns-10 c = play-by _ _ _ (c .before .before .before .before .before .before .before .before .before .before .before .before .before .before .before .before .args .call) _ _ _ _ _ (c .before .before .before .before .before .before .before .before .before .enum-told10 .given .1) (c .before .before .before .before .commit .ensures)
+returns-10 c = play-by _ _ _ (c .before .before .before .before .before .before .before .before .before .before .before .before .before .before .before .before .args .command) _ _ _ _ _ (c .before .before .before .before .before .before .before .before .before .enum-told10 .given .1) (c .before .before .before .before .commit .ensures)
 
 same-length-41 : tie.Need-same-length-41
 same-length-41 c = search needs
@@ -253,7 +252,7 @@ same-length-44 : tie.Need-same-length-44
 same-length-44 c = search needs
 
 returns-11 : tie.Need-returns-11
-returns-11 c = play-by _ _ _ (c .before .before .before .before .before .before .before .before .before .before .before .before .before .before .before .before .before .before .before .before .args .call) _ _ _ _ _ (c .before .before .before .before .before .before .before .before .before .before .before .before .before .enum-told11 .given .1) (c .before .before .before .before .before .before .before .before .withdraw .ensures)
+returns-11 c = play-by _ _ _ (c .before .before .before .before .before .before .before .before .before .before .before .before .before .before .before .before .before .before .before .before .args .command) _ _ _ _ _ (c .before .before .before .before .before .before .before .before .before .before .before .before .before .enum-told11 .given .1) (c .before .before .before .before .before .before .before .before .withdraw .ensures)
 
 same-length-45 : tie.Need-same-length-45
 same-length-45 c = search needs
@@ -268,16 +267,15 @@ same-length-48 : tie.Need-same-length-48
 same-length-48 c = search needs
 
 returns-12 : tie.Need-returns-12
-returns-12 c = play-by _ _ _ (c .before .before .before .before .before .before .before .before .before .before .before .before .before .before .before .before .before .before .args .call) _ _ _ _ _ (c .before .before .before .before .before .before .before .before .before .before .before .enum-told12 .given .1) (c .before .before .before .before .before .before .sweep .ensures)
+returns-12 c = play-by _ _ _ (c .before .before .before .before .before .before .before .before .before .before .before .before .before .before .before .before .before .before .args .command) _ _ _ _ _ (c .before .before .before .before .before .before .before .before .before .before .before .enum-told12 .given .1) (c .before .before .before .before .before .before .sweep .ensures)
 
 same-length-49 : tie.Need-same-length-49
 same-length-49 c = search needs
 
 returns-13 : tie.Need-returns-13
-unfolding illTurn
 returns-13 c =
     let done = c .before .before .ill-formed .ensures in
-    play-by _ _ _ (c .before .before .before .before .before .before .before .before .before .before .before .args .call) _ _ _ _ _ (c .before .before .before .before .enum-told13 .given .1) (plays _ _ _ _ _ _ _ (done .0) refl (done .1) refl (done .2))
+    play-by _ _ _ (c .before .before .before .before .before .before .before .before .before .before .before .args .command) _ _ _ _ _ (c .before .before .before .before .enum-told13 .given .1) (plays _ _ _ _ _ _ _ (done .0) refl (done .1) refl (done .2))
 
 pub play-spec : {M : Type 1} → statement M
 play-spec =

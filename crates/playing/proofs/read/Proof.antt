@@ -8,7 +8,7 @@ use Rattle.chain.specs.declared.Place.{Place}
 use Rattle.chain.specs.Walk.{bodyOf}
 use Rattle.numeral.specs.Numeral.{numeralOf, hexOf}
 use Rattle.kind.specs.Areas.{areas}
-use Rattle.playing.specs.Playing.{readTurn}
+use Rattle.calls.specs.Calls.{readLeaves}
 use Rattle.chain.proofs.Bodies.{body-most}
 use Rattle.playing.proofs.Playings.{plays, on-desk}
 use borrow.Author.Needs.{needs}
@@ -38,13 +38,12 @@ same-length : tie.Need-same-length
 same-length c = search needs
 
 returns : tie.Need-returns
-unfolding readTurn
 returns c =
     let start = c .before .before .before .before .before .before .before .before .before .before .before .before .before .args in
     let came = areas (start .«data» .now) (start .undo .now) (start .status .now) in
     let same = c .before .before .before .before .before .before .before .before .words-of .ensures .1 in
     let done = c .before .before .before .before .before .before .read .ensures in
-    on-desk (λ (d : Desk). readTurn came d (start .session) (start .row)) same (plays _ _ _ _ _ _ _ (c .before .before .before .before .before .code .ensures ∙ ap (λ (y : ℕ × Place × ℕ). y .0) done) (ap (λ (b : List ℕ). numeralOf (c .before .before .before .before .before .before .read .result .looked) ∷ hexOf b ∷ []) (c .before .before .before .before .body .ensures .0) ∙ ap (λ (y : ℕ × Place × ℕ). numeralOf (y .2) ∷ hexOf (bodyOf (y .1) (start .«data» .now) (start .undo .now)) ∷ []) done) (sym same) refl (c .before .before .bodied .ensures))
+    on-desk (λ (d : Desk). readLeaves came d (start .session) (start .row)) same (plays _ _ _ _ _ _ _ (c .before .before .before .before .before .code .ensures ∙ ap (λ (y : ℕ × Place × ℕ). y .0) done) (ap (λ (b : List ℕ). numeralOf (c .before .before .before .before .before .before .read .result .looked) ∷ hexOf b ∷ []) (c .before .before .before .before .body .ensures .0) ∙ ap (λ (y : ℕ × Place × ℕ). numeralOf (y .2) ∷ hexOf (bodyOf (y .1) (start .«data» .now) (start .undo .now)) ∷ []) done) (sym same) refl (c .before .before .bodied .ensures))
 
 pub read-spec : {M : Type 1} → statement M
 read-spec =

@@ -1,7 +1,7 @@
 -- `playing::seal` meets its contract: the call on the desk's words, and its line. Assumes nothing.
 use mathlib.Core.Path.{refl, sym, _∙_}
 use Rattle.kind.specs.Areas.{areas}
-use Rattle.playing.specs.Playing.{sealTurn}
+use Rattle.calls.specs.Calls.{sealLeaves}
 use Rattle.playing.proofs.Playings.{plays, on-desk}
 use borrow.Author.Needs.{needs}
 use Rattle.playing.proofs.seal.Statement.{statement}
@@ -32,13 +32,12 @@ same-length-4 : tie.Need-same-length-4
 same-length-4 c = search needs
 
 returns : tie.Need-returns
-unfolding sealTurn
 returns c =
     let start = c .before .before .before .before .before .before .before .before .before .before .before .before .before .before .before .before .before .before .before .before .before .args in
     let came = areas (start .«data» .now) (start .undo .now) (start .status .now) in
     let same = c .before .before .before .before .before .before .before .before .before .before .before .before .before .before .before .before .words-of .ensures .1 in
     let done = c .before .before .before .before .before .before .before .before .before .before .before .seal .ensures in
-    on-desk (sealTurn came) same (plays _ _ _ _ _ _ _ (c .before .before .before .before .code .ensures ∙ done .answers) refl (sym same) (done .leaves) (c .before .before .plain .ensures))
+    on-desk (sealLeaves came) same (plays _ _ _ _ _ _ _ (c .before .before .before .before .code .ensures ∙ done .answers) refl (sym same) (done .leaves) (c .before .before .plain .ensures))
 
 pub seal-spec : {M : Type 1} → statement M
 seal-spec =

@@ -5,7 +5,7 @@ use mathlib.Core.List.{[], _∷_}
 use Rattle.desk.specs.declared.Desk.{Desk}
 use Rattle.numeral.specs.Numeral.{numeralOf}
 use Rattle.kind.specs.Areas.{areas}
-use Rattle.playing.specs.Playing.{sweepTurn}
+use Rattle.calls.specs.Calls.{sweepLeaves}
 use Rattle.playing.proofs.Playings.{plays, on-desk}
 use borrow.Author.Needs.{needs}
 use Rattle.playing.proofs.sweep.Statement.{statement}
@@ -33,13 +33,12 @@ same-length-3 : tie.Need-same-length-3
 same-length-3 c = search needs
 
 returns : tie.Need-returns
-unfolding sweepTurn
 returns c =
     let start = c .before .before .before .before .before .before .before .before .before .before .before .before .before .before .before .before .before .before .args in
     let came = areas (start .«data» .now) (start .undo .now) (start .status .now) in
     let same = c .before .before .before .before .before .before .before .before .before .before .before .before .before .words-of .ensures .1 in
     let done = c .before .before .before .before .before .before .before .before .before .sweep .ensures in
-    on-desk (λ (d : Desk). sweepTurn came d (start .first) (start .quota)) same (plays _ _ _ _ _ _ _ (c .before .before .before .before .code .ensures ∙ ap (λ (y : ℕ × ℕ × ℕ). y .0) (done .answers)) (ap (λ (y : ℕ × ℕ × ℕ). numeralOf (y .1) ∷ numeralOf (y .2) ∷ []) (done .answers)) (sym same) (done .leaves) (c .before .before .paired .ensures))
+    on-desk (λ (d : Desk). sweepLeaves came d (start .first) (start .quota)) same (plays _ _ _ _ _ _ _ (c .before .before .before .before .code .ensures ∙ ap (λ (y : ℕ × ℕ × ℕ). y .0) (done .answers)) (ap (λ (y : ℕ × ℕ × ℕ). numeralOf (y .1) ∷ numeralOf (y .2) ∷ []) (done .answers)) (sym same) (done .leaves) (c .before .before .paired .ensures))
 
 pub sweep-spec : {M : Type 1} → statement M
 sweep-spec =

@@ -2,7 +2,7 @@
 use mathlib.Core.Path.{refl, sym, _∙_}
 use Rattle.desk.specs.declared.Desk.{Desk}
 use Rattle.kind.specs.Areas.{areas}
-use Rattle.playing.specs.Playing.{updateTurn}
+use Rattle.calls.specs.Calls.{updateLeaves}
 use Rattle.playing.proofs.Playings.{plays, on-desk}
 use borrow.Author.Needs.{needs}
 use Rattle.playing.proofs.update.Statement.{statement}
@@ -30,13 +30,12 @@ same-length-3 : tie.Need-same-length-3
 same-length-3 c = search needs
 
 returns : tie.Need-returns
-unfolding updateTurn
 returns c =
     let start = c .before .before .before .before .before .before .before .before .before .before .before .before .before .before .before .before .before .before .before .args in
     let came = areas (start .«data» .now) (start .undo .now) (start .status .now) in
     let same = c .before .before .before .before .before .before .before .before .before .before .before .before .before .words-of .ensures .1 in
     let done = c .before .before .before .before .before .before .before .before .before .update .ensures in
-    on-desk (λ (d : Desk). updateTurn came d (start .session) (start .row) (start .body .now)) same (plays _ _ _ _ _ _ _ (c .before .before .before .before .code .ensures ∙ done .answers) refl (sym same) (done .leaves) (c .before .before .plain .ensures))
+    on-desk (λ (d : Desk). updateLeaves came d (start .session) (start .row) (start .body .now)) same (plays _ _ _ _ _ _ _ (c .before .before .before .before .code .ensures ∙ done .answers) refl (sym same) (done .leaves) (c .before .before .plain .ensures))
 
 pub update-spec : {M : Type 1} → statement M
 update-spec =

@@ -3,7 +3,7 @@ use Prim.Native.Nat.{ℕ}
 use mathlib.Core.Path.{refl, ap, _∙_}
 use Rattle.desk.specs.declared.Desk.{Desk}
 use Rattle.kind.specs.Areas.{areas}
-use Rattle.playing.specs.Playing.{withdrawTurn}
+use Rattle.calls.specs.Calls.{withdrawLeaves}
 use Rattle.playing.proofs.Playings.{plays, on-desk}
 use borrow.Author.Needs.{needs}
 use Rattle.playing.proofs.withdraw.Statement.{statement}
@@ -37,12 +37,11 @@ same-length-4 : tie.Need-same-length-4
 same-length-4 c = search needs
 
 returns : tie.Need-returns
-unfolding withdrawTurn
 returns c =
     let start = c .before .before .before .before .before .before .before .before .before .before .before .before .before .before .before .before .before .before .before .before .before .before .before .args in
     let came = areas (start .«data» .now) (start .undo .now) (start .status .now) in
     let done = c .before .before .before .before .before .before .before .before .before .before .before .before .before .withdraw .ensures .0 in
-    on-desk (λ (d : Desk). withdrawTurn came d (start .session)) (c .before .before .before .before .before .before .before .before .before .before .before .before .before .before .before .before .before .before .words-of .ensures .1) (plays _ _ _ _ _ _ _ (c .before .before .before .before .code .ensures ∙ ap (λ (y : ℕ × Desk). y .0) (done .answers)) refl (c .before .before .before .before .before .desk-left .ensures ∙ ap (λ (y : ℕ × Desk). y .1) (done .answers)) (done .leaves) (c .before .before .plain .ensures))
+    on-desk (λ (d : Desk). withdrawLeaves came d (start .session)) (c .before .before .before .before .before .before .before .before .before .before .before .before .before .before .before .before .before .before .words-of .ensures .1) (plays _ _ _ _ _ _ _ (c .before .before .before .before .code .ensures ∙ ap (λ (y : ℕ × Desk). y .0) (done .answers)) refl (c .before .before .before .before .before .desk-left .ensures ∙ ap (λ (y : ℕ × Desk). y .1) (done .answers)) (done .leaves) (c .before .before .plain .ensures))
 
 pub withdraw-spec : {M : Type 1} → statement M
 withdraw-spec =

@@ -11,7 +11,7 @@ room-for-requires c κs = search needs
 
 returns : tie.Need-returns
 unfolding begun
-returns c = ap (λ (b : Bool). record { ran = record { station = c .before .args .station; taken = 0; made = 0 }; more = b }) (c .room-for .ensures)
+returns c = ap (λ (b : Bool). record { ran = record { footing = c .before .args .footing; taken = 0; made = 0 }; more = b }) (c .room-for .ensures)
 
 pub begins-spec : {M : Type 1} → statement M
 begins-spec = tie.close (tie.spec room-for-requires returns)

@@ -7,8 +7,8 @@ use Rattle.script.proofs.Goings.{goes-ended, goes-unended}
 use Rattle.script.proofs.goes_on.Statement.{statement}
 use Rattle.script.proofs.goes_on.Tie as tie
 
-call-in-requires : tie.Need-call-in-requires
-call-in-requires c κs =
+command-in-requires : tie.Need-command-in-requires
+command-in-requires c κs =
     let start = c .before .before .before .before .before .before .before .before in
     (line-order _ _ _ (start .pre .0), omega (arith, ended-end _ _ _ (start .pre .0) (c .if1 .taken) .0))
 
@@ -32,7 +32,7 @@ same-length-4 c = search needs
 
 returns : tie.Need-returns
 returns c =
-    goes-ended _ _ _ _ _ _ _ _ _ (c .before .before .before .before .before .before .before .before .before .before .before .before .before .before .before .before .before .before .before .before .before .before .before .before .pre .0) _ _ _ _ (c .before .before .before .before .before .before .before .before .before .before .before .before .before .before .before .before .if1 .taken) (c .before .before .before .before .before .before .before .before .before .before .before .before .before .before .before .call-in .ensures) (c .before .before .before .before .before .before .before .before .before .before .step .ensures) (same-length-4 c) (c .room-for .ensures)
+    goes-ended _ _ _ _ _ _ _ _ _ (c .before .before .before .before .before .before .before .before .before .before .before .before .before .before .before .before .before .before .before .before .before .before .before .before .pre .0) _ _ _ _ (c .before .before .before .before .before .before .before .before .before .before .before .before .before .before .before .before .if1 .taken) (c .before .before .before .before .before .before .before .before .before .before .before .before .before .before .before .command-in .ensures) (c .before .before .before .before .before .before .before .before .before .before .step .ensures) (same-length-4 c) (c .room-for .ensures)
 
 rest-requires : tie.Need-rest-requires
 rest-requires c κs = let start = c .before .before .before .before .before .before .before .before .before in (line-order _ _ _ (start .pre .0), start .pre .2)
@@ -49,7 +49,7 @@ pub goes-on-spec : {M : Type 1} → statement M
 goes-on-spec =
     tie.close
     (tie.spec
-    call-in-requires
+    command-in-requires
     step-requires
     room-for-requires
     same-length

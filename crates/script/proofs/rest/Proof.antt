@@ -10,6 +10,9 @@ returns : tie.Need-returns
 unfolding longest
 returns c = ((omega arith, omega arith), rest-none _ _ _ _ _ _ (c .before .before .before .before .pre .0) (c .before .before .if1 .taken) (c .if2 .taken))
 
+code-requires : tie.Need-code-requires
+code-requires c κs = search needs
+
 plain-requires : tie.Need-plain-requires
 plain-requires c κs = search needs
 
@@ -21,7 +24,10 @@ same-length c = search needs
 
 returns-2 : tie.Need-returns-2
 returns-2 c =
-    ((omega arith, c .before .before .before .plain .ensures .within), rest-unended _ _ _ _ _ _ (c .before .before .before .before .before .before .before .before .before .pre .0) _ _ _ (c .before .before .before .before .before .before .before .if1 .taken) (c .before .before .before .before .before .if2 .left) (c .in-line .ensures) (c .before .before .before .plain .ensures))
+    let coded = c .before .before .before .before .before in
+    let asked = coded .before in
+    let start = asked .before .before .before .before in
+    ((omega arith, c .before .before .before .plain .ensures .within), rest-unended _ _ _ _ _ _ (start .pre .0) _ _ _ _ (asked .before .before .if1 .taken) (asked .if2 .left) (c .in-line .ensures) (coded .code .ensures) (c .before .before .before .plain .ensures))
 
 sub-if3 : tie.Need-sub-if3
 sub-if3 c = search needs
@@ -42,6 +48,7 @@ rest-spec =
     tie.close
     (tie.spec
     returns
+    code-requires
     plain-requires
     in-line-requires
     same-length

@@ -65,11 +65,11 @@ use Rattle.lines.proofs.next as next
 use Rattle.lines.proofs.next.Symbol as next-def
 use Rattle.lines.proofs.next.Symbol.{name as #lines·next}
 use Rattle.lines.proofs.next.Met as next-thm
-use Rattle.script.specs.declared.Station.{Station}
+use Rattle.script.specs.declared.Footing.{Footing}
 use Rattle.script.specs.declared.Going.{Going}
-use Rattle.script.specs.Script.{Carried, carried, runRule, Runs, begun, Goes}
-use Rattle.script.proofs.Station as S
-use Rattle.script.proofs.Station.Laws as S′
+use Rattle.script.specs.Script.{Carried, carried, runRule, Yields, begun, Goes}
+use Rattle.script.proofs.Footing as S
+use Rattle.script.proofs.Footing.Laws as S′
 use Rattle.script.proofs.Ran as N
 use Rattle.script.proofs.Ran.Laws as N′
 use Rattle.script.proofs.Going as G
@@ -121,7 +121,7 @@ module _ {M : Type 1} (𝓤 : URA M) (H : Heap 𝓤) (A : Atoms 𝓤) (mem : Mem
   abbrev GoesOn : Contract 𝓤
   GoesOn = tripleOf 𝓤 H A goes-on.signature (goes-on.spec 𝓤 H A mem run′)
 
-module _ {M : Type 1} (𝓤 : URA M) (H : Heap 𝓤) (A : Atoms 𝓤) (W : Given 𝓤 H A) (mem : Memory → SProp 𝓤) (run′ : Routine → Fun 𝓤) (κ₀ κ₁ κ₂ κ₃ κ₄ : Lft) (q₀ q₁ q₂ q₃ q₄ : Share) (d u p : RefT (List ℕ)) (s : Station) (x : RefT (List ℕ)) (last : Bool) (o : RefT (List ℕ)) where
+module _ {M : Type 1} (𝓤 : URA M) (H : Heap 𝓤) (A : Atoms 𝓤) (W : Given 𝓤 H A) (mem : Memory → SProp 𝓤) (run′ : Routine → Fun 𝓤) (κ₀ κ₁ κ₂ κ₃ κ₄ : Lft) (q₀ q₁ q₂ q₃ q₄ : Share) (d u p : RefT (List ℕ)) (s : Footing) (x : RefT (List ℕ)) (last : Bool) (o : RefT (List ℕ)) where
   -- the machine values passed
   abbrev vd : Val
   vd = sliceVal (d .ptr) (length (d .now))
@@ -260,7 +260,7 @@ module _ {M : Type 1} (𝓤 : URA M) (H : Heap 𝓤) (A : Atoms 𝓤) (W : Given
     undo-same : length (zs .1 .0) ≡ length (t .undo)
     status-same : length (zs .1 .1 .0) ≡ length (t .status)
     out-same : length (zs .1 .1 .1 .1 .1 .1 .1 .0) ≡ length (t .out)
-    went : Goes (carried (t .so .ran .station) (areas (t .«data») (t .undo) (t .status))) (x .now) (line t) last (t .so .ran .made) (t .out) r (areas (zs .0) (zs .1 .0) (zs .1 .1 .0)) (zs .1 .1 .1 .1 .1 .1 .1 .0)
+    went : Goes (carried (t .so .ran .footing) (areas (t .«data») (t .undo) (t .status))) (x .now) (line t) last (t .so .ran .made) (t .out) r (areas (zs .0) (zs .1 .0) (zs .1 .1 .0)) (zs .1 .1 .1 .1 .1 .1 .1 .0)
 
   abbrev Back : Going → Val → Lists → Item 𝓤
   Back r w zs =
@@ -281,8 +281,8 @@ module _ {M : Type 1} (𝓤 : URA M) (H : Heap 𝓤) (A : Atoms 𝓤) (W : Given
       → ent 𝓤 (⋆ 𝓤 H A (Tokens z ∷ ‵ (G.the-row .own r (w ∷ [])) ∷ raw (ensured 𝓤 H A goes-on.ended (goes-on.clauses 𝓤 H A mem run′) (κs-on z) (args-on t z) tt r) ∷ Rest t z ∷ [])) (H .⇛ (ex 𝓤 (Came t r w)))
   back-all t z r w r₀ r₁ r₂ r₄ =
       qed W (Tokens z ∷ ‵ (G.the-row .own r (w ∷ [])) ∷ raw (ensured 𝓤 H A goes-on.ended (goes-on.clauses 𝓤 H A mem run′) (κs-on z) (args-on t z) tt r) ∷ Rest t z ∷ []) ∵
-      updating ! $ move ! (2 ∷ []) $ use1 W (some (λ (zs : Lists). ‵ (lasts goes-on.ended (κs-on z) (args-on t z) zs) ⊛ raw (fact 𝓤 (Goes (carried (t .so .ran .station) (areas (t .«data») (t .undo) (t .status))) (x .now) (line t) last (t .so .ran .made) (t .out) r (areas (zs .0) (zs .1 .0) (zs .1 .1 .0)) (zs .1 .1 .1 .1 .1 .1 .1 .0))))) (id⊢ 𝓤 _) $ pick ! (λ zs.
-      split ! $ move ! (1 ∷ []) $ heard ! (Goes (carried (t .so .ran .station) (areas (t .«data») (t .undo) (t .status))) (x .now) (line t) last (t .so .ran .made) (t .out) r (areas (zs .0) (zs .1 .0) (zs .1 .1 .0)) (zs .1 .1 .1 .1 .1 .1 .1 .0)) (λ went.
+      updating ! $ move ! (2 ∷ []) $ use1 W (some (λ (zs : Lists). ‵ (lasts goes-on.ended (κs-on z) (args-on t z) zs) ⊛ raw (fact 𝓤 (Goes (carried (t .so .ran .footing) (areas (t .«data») (t .undo) (t .status))) (x .now) (line t) last (t .so .ran .made) (t .out) r (areas (zs .0) (zs .1 .0) (zs .1 .1 .0)) (zs .1 .1 .1 .1 .1 .1 .1 .0))))) (id⊢ 𝓤 _) $ pick ! (λ zs.
+      split ! $ move ! (1 ∷ []) $ heard ! (Goes (carried (t .so .ran .footing) (areas (t .«data») (t .undo) (t .status))) (x .now) (line t) last (t .so .ran .made) (t .out) r (areas (zs .0) (zs .1 .0) (zs .1 .1 .0)) (zs .1 .1 .1 .1 .1 .1 .1 .0)) (λ went.
       fsplit ! $ fsplit ! $ move ! (1 ∷ []) $ feqL ! (λ e₀. move ! (1 ∷ []) $ fsplit ! $ fsplit ! $ move ! (1 ∷ []) $ feqL ! (λ e₁. move ! (1 ∷ []) $ fsplit ! $
       fsplit ! $ move ! (1 ∷ []) $ feqL ! (λ e₂. move ! (1 ∷ []) $ fsplit ! $ drop ! $ fsplit ! $ drop ! $ fsplit ! $ drop ! $ fsplit ! $ drop ! $ fsplit ! $
       fsplit ! $ move ! (1 ∷ []) $ feqL ! (λ e₄. move ! (1 ∷ []) $ drop ! $ move ! (4 ∷ []) $ split ! $ move ! (1 ∷ []) $ split ! $ move ! (1 ∷ []) $ split ! $
@@ -305,7 +305,7 @@ module _ {M : Type 1} (𝓤 : URA M) (H : Heap 𝓤) (A : Atoms 𝓤) (W : Given
   exits t over is =
       qed W (Had t) ∵
       suffices ! _ (ends-at 𝓤 H A run.ended stayed (run.clauses 𝓤 H A mem run′) W ((κs, (q₀, (q₁, (q₂, (q₃, (q₄, tt))))), tt, (d, (u, (p, (s, (x, (last, (o, tt))))))), passed), tt) (N′.lowered (t .so .ran)) (t .so .ran) (t .«data», (t .undo, (t .status, (tt, (tt, (tt, (t .out, tt))))))) (t .data-long, (t .undo-long, (t .status-long, (tt, (tt, (tt, (t .holds .long, tt)))))))) $
-      suffices ! _ (assoc∗ 𝓤 (onExit 𝓤 H A run.ended stayed κs (q₀, (q₁, (q₂, (q₃, (q₄, tt))))) passed (N′.lowered (t .so .ran)) (t .so .ran) (d, (u, (p, (s, (x, (last, (o, tt))))))) (t .«data», (t .undo, (t .status, (tt, (tt, (tt, (t .out, tt)))))))) (fact 𝓤 ((t .so .ran .taken ≤ length (x .now)) × (t .so .ran .made ≤ length (o .now)))) (fact 𝓤 (Runs (runRule k₀ (x .now) last (length (o .now))) (o .now) (t .so .ran) (areas (t .«data») (t .undo) (t .status)) (t .out)))) $ says ! (t .holds .done over) $ says ! (t .holds .inside) $
+      suffices ! _ (assoc∗ 𝓤 (onExit 𝓤 H A run.ended stayed κs (q₀, (q₁, (q₂, (q₃, (q₄, tt))))) passed (N′.lowered (t .so .ran)) (t .so .ran) (d, (u, (p, (s, (x, (last, (o, tt))))))) (t .«data», (t .undo, (t .status, (tt, (tt, (tt, (t .out, tt)))))))) (fact 𝓤 ((t .so .ran .taken ≤ length (x .now)) × (t .so .ran .made ≤ length (o .now)))) (fact 𝓤 (Yields (runRule k₀ (x .now) last (length (o .now))) (o .now) (t .so .ran) (areas (t .«data») (t .undo) (t .status)) (t .out)))) $ says ! (t .holds .done over) $ says ! (t .holds .inside) $
       fsplit ! $ move ! (2 ∷ []) $ fsplit ! $ move ! (4 ∷ []) $ fsplit ! $ move ! (6 ∷ []) $ fsplit ! $ move ! (8 ∷ []) $ fsplit ! $ nothing ! $ move ! (4 ∷ 0 ∷ []) $
       join ! $ move ! (2 ∷ 0 ∷ []) $ join ! $ move ! (4 ∷ 0 ∷ []) $ join ! $ move ! (5 ∷ 0 ∷ []) $ join ! $ move ! (6 ∷ 0 ∷ []) $ join ! $ frame ! $ rewrite ! 4 (λ (n : ℕ). ‵ (MutSlice (named 0) κ₀ u8 .own (held κ₀ q₀ d (d .name) (t .«data»)) (sliceVal (d .ptr) n ∷ []))) (t .data-long) refl $
       rewrite ! 3 (λ (n : ℕ). ‵ (MutSlice (named 1) κ₁ u8 .own (held κ₁ q₁ u (u .name) (t .undo)) (sliceVal (u .ptr) n ∷ []))) (t .undo-long) refl $ rewrite ! 2 (λ (n : ℕ). ‵ (MutSlice (named 2) κ₂ u8 .own (held κ₂ q₂ p (p .name) (t .status)) (sliceVal (p .ptr) n ∷ []))) (t .status-long) refl $
@@ -525,7 +525,7 @@ module _ {M : Type 1} (𝓤 : URA M) (H : Heap 𝓤) (A : Atoms 𝓤) (W : Given
     (known-new : Triple 𝓤 (𝓣 .C #lines·new) (New 𝓤 H A mem run′)) (known-next : Triple 𝓤 (𝓣 .C #lines·next) (Next 𝓤 H A mem run′)) (known-begins : Triple 𝓤 (𝓣 .C #script·begins) (Begins 𝓤 H A mem run′)) (known-on : Triple 𝓤 (𝓣 .C #script·goes-on) (GoesOn 𝓤 H A mem run′)) where
   run-walks : Walks 𝓤 H A run.ended stayed (WpFn 𝓤 H (𝓣 .C) (𝓣 .Λ) code.function) (run.clauses 𝓤 H A mem run′)
   run-walks = walked 𝓤 H A run.ended stayed (run.clauses 𝓤 H A mem run′) (WpFn 𝓤 H (𝓣 .C) (𝓣 .Λ) code.function)
-      (λ κs. (slice-vals, (slice-vals, (slice-vals, ((λ (y : Station). S′.lowered y ∷ []), (slice-vals, (bool-vals, (slice-vals, tt))))))))
+      (λ κs. (slice-vals, (slice-vals, (slice-vals, ((λ (y : Footing). S′.lowered y ∷ []), (slice-vals, (bool-vals, (slice-vals, tt))))))))
       (λ κs. (mut-slice-tells (named 0) (κs .0) u8, (mut-slice-tells (named 1) (κs .1 .0) u8, (mut-slice-tells (named 2) (κs .1 .1 .0) u8, (S′.lowers .val-is, (shr-slice-tells (named 3) (κs .1 .1 .1 .0) u8, (bool-tells, (mut-slice-tells (named 4) (κs .1 .1 .1 .1 .0) u8, tt))))))))
       (λ κs qs bounds a g are. via 𝓤 _ (fst∗ 𝓤 _ (emp 𝓤))
       (walk 𝓤 H A W mem run′ (κs .0) (κs .1 .0) (κs .1 .1 .0) (κs .1 .1 .1 .0) (κs .1 .1 .1 .1 .0) (qs .0) (qs .1 .0) (qs .1 .1 .0) (qs .1 .1 .1 .0) (qs .1 .1 .1 .1 .0)

@@ -5,7 +5,7 @@ use mathlib.Core.List.{[]}
 use Rattle.kind.specs.Areas.{Areas}
 use Rattle.desk.specs.declared.Desk.{Desk}
 use Rattle.ground.specs.Refuse.{kept}
-use Rattle.words.specs.Words.{wordsOf}
+use Rattle.words.specs.Words.{deskIn, wordsOf}
 use Rattle.station.specs.Station.{formatCall}
 use Rattle.station.proofs.Calls.{calls, kept-by}
 use borrow.Author.Needs.{needs}
@@ -39,7 +39,7 @@ returns c =
     calls
     (λ (y : ℕ × Desk). y .0)
     (λ (a : Areas). a)
-    (λ (y : ℕ × Desk). kept (y .0) (wordsOf (y .1)) (start .args .desk .now))
+    (λ (y : ℕ × Desk). kept (y .0) (wordsOf (kept (y .0) (y .1) (deskIn (start .args .desk .now)))) (start .args .desk .now))
     (λ (y : ℕ × Desk). [])
     _
     (called .format .ensures)

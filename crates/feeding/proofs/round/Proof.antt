@@ -1,4 +1,4 @@
--- `feeding::turn` meets its contract: by the reading and its answering, joined. Assumes nothing.
+-- `feeding::round` meets its contract: by the reading and its answering, joined. Assumes nothing.
 use Prim.Native.Nat.{_≤_}
 use native.Mathlib.Omega.{arith}
 use mathlib.Core.Path.{_≡_, sym}
@@ -6,10 +6,10 @@ use mathlib.Core.Bool.{true≢false}
 use lib.ListN.{length}
 use lib.Seq.{length-take-le}
 use borrow.Author.Needs.{needs}
-use Rattle.feeding.proofs.Answered.{answers-short}
-use Rattle.feeding.proofs.Turned.{turn-failed, kept-within, turn-read}
-use Rattle.feeding.proofs.turn.Statement.{statement}
-use Rattle.feeding.proofs.turn.Tie as tie
+use Rattle.feeding.proofs.Served.{answers-short}
+use Rattle.feeding.proofs.Rounds.{round-failed, kept-within, round-read}
+use Rattle.feeding.proofs.round.Statement.{statement}
+use Rattle.feeding.proofs.round.Tie as tie
 
 fill-requires : tie.Need-fill-requires
 fill-requires c κs = search needs
@@ -27,23 +27,23 @@ returns : tie.Need-returns
 returns c =
     let start = c .before .before .before .before .before .before .before .before .before .before .before .before .before in
     let inside : start .args .kept ≤ length (start .args .text .now) = omega (arith, start .pre .0) in
-    (turn-failed _ _ _ _ _ _ _ inside (c .before .before .before .before .before .before .fill .ensures), λ e. absurd (true≢false (sym e)))
+    (round-failed _ _ _ _ _ _ _ inside (c .before .before .before .before .before .before .fill .ensures), λ e. absurd (true≢false (sym e)))
 
-slice-reshare-prefix-answer : tie.Need-slice-reshare-prefix-answer
-slice-reshare-prefix-answer c = search needs
+slice-reshare-prefix-serve : tie.Need-slice-reshare-prefix-serve
+slice-reshare-prefix-serve c = search needs
 
-slice-aggregate-answer : tie.Need-slice-aggregate-answer
-slice-aggregate-answer c = sym (length-take-le _ _ (slice-reshare-prefix-answer (c .before)))
+slice-aggregate-serve : tie.Need-slice-aggregate-serve
+slice-aggregate-serve c = sym (length-take-le _ _ (slice-reshare-prefix-serve (c .before)))
 
-answer-requires : tie.Need-answer-requires
-answer-requires c κs = search needs
+serve-requires : tie.Need-serve-requires
+serve-requires c κs = search needs
 
 -- the buffer is as long as it was
 long : (c : tie.After-struct-known2) → length (c .before .before .before .before .before .before .before .before .before .before .before .before .before .before .before .before .before .before .before .before .fill .last .0) ≡ length (c .before .before .before .before .before .before .before .before .before .before .before .before .before .before .before .before .before .before .before .before .before .before .before .before .before .before .before .args .text .now)
 long c = search needs
 
 sub-keep-rest : tie.Need-sub-keep-rest
-sub-keep-rest c = kept-within _ _ _ _ _ _ _ _ (long c) (c .before .before .before .before .before .before .before .before .before .before .before .before .before .before .before .before .before .before .before .before .fill .ensures) (c .before .before .before .before .before .before .before .before .before .before .answer .ensures)
+sub-keep-rest c = kept-within _ _ _ _ _ _ _ _ (long c) (c .before .before .before .before .before .before .before .before .before .before .before .before .before .before .before .before .before .before .before .before .fill .ensures) (c .before .before .before .before .before .before .before .before .before .before .serve .ensures)
 
 keep-rest-requires : tie.Need-keep-rest-requires
 keep-rest-requires c κs = search needs
@@ -67,12 +67,12 @@ returns-2 : tie.Need-returns-2
 returns-2 c =
     let start = c .before .before .before .before .before .before .before .before .before .before .before .before .before .before .before .before .before .before .before .before .before .before .before .before .before .before .before .before .before .before in
     let call = c .before .before .before .before .before .before .before .before .before .before .before .before .before in (
-      turn-read _ _ _ _ _ _ _ _ (long (c .before .before .before)) (c .before .before .before .before .before .before .before .before .before .before .before .before .before .before .before .before .before .before .before .before .before .before .before .fill .ensures) (call .answer .ensures) _ (c .before .before .keep-rest .ensures),
-      answers-short _ _ _ _ _ (call .answer .ensures) (start .pre .2),
+      round-read _ _ _ _ _ _ _ _ (long (c .before .before .before)) (c .before .before .before .before .before .before .before .before .before .before .before .before .before .before .before .before .before .before .before .before .before .before .before .fill .ensures) (call .serve .ensures) _ (c .before .before .keep-rest .ensures),
+      answers-short _ _ _ _ _ (call .serve .ensures) (start .pre .2),
     )
 
-pub turn-spec : {M : Type 1} → statement M
-turn-spec =
+pub round-spec : {M : Type 1} → statement M
+round-spec =
     tie.close
     (tie.spec
     fill-requires
@@ -80,9 +80,9 @@ turn-spec =
     fail-requires
     same-length
     returns
-    slice-reshare-prefix-answer
-    slice-aggregate-answer
-    answer-requires
+    slice-reshare-prefix-serve
+    slice-aggregate-serve
+    serve-requires
     sub-keep-rest
     keep-rest-requires
     same-length-2

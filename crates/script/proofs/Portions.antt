@@ -13,30 +13,29 @@ use Rattle.kind.specs.Areas.{Areas}
 use Rattle.lines.specs.Span.{before, parts}
 use Rattle.lines.proofs.Spans.{before-length, before-take, parts-cut, parts-ended, parts-last}
 use Rattle.lines.specs.Lines.{endFrom}
-use Rattle.line.specs.declared.Call.{Call}
-use Rattle.line.specs.Line.{callOf, ill}
+use Rattle.line.specs.declared.Command.{Command}
+use Rattle.line.specs.Line.{commandOf, ill}
 use Rattle.reply.specs.Reply.{longest}
-use Rattle.playing.specs.Playing.{lineOf}
-use Rattle.script.specs.declared.Station.{Station}
+use Rattle.script.specs.declared.Footing.{Footing}
 use Rattle.script.specs.declared.Stepped.{Stepped}
 use Rattle.script.specs.declared.Ran.{Ran}
-use Rattle.script.specs.Script.{Carried, carried, turnIn, stepped, callIn, Steps, Run, ran, lined, restOf, rested, Rests, full, runLines, runRule, Runs}
+use Rattle.script.specs.Script.{Carried, carried, lineIn, stepped, commandIn, Steps, Portion, portion, lined, restOf, rested, Rests, full, runLines, runRule, Yields}
 
 -- ---- the rule, step by step
 
-pub full-no : (room : ℕ) (r : Run) → length (r .said) + longest ≤ room → full room r ≡ false
+pub full-no : (room : ℕ) (r : Portion) → length (r .said) + longest ≤ room → full room r ≡ false
 full-no room r h = le-ltb room (length (r .said) + longest) h
 
-pub full-yes : (room : ℕ) (r : Run) → room < length (r .said) + longest → full room r ≡ true
+pub full-yes : (room : ℕ) (r : Portion) → room < length (r .said) + longest → full room r ≡ true
 full-yes room r h = lt-ltb room (length (r .said) + longest) h
 
-pub run-full : (room : ℕ) (last : Bool) (r : Run) (ls : List (List ℕ)) → full room r ≡ true → runLines room last r ls ≡ r
+pub run-full : (room : ℕ) (last : Bool) (r : Portion) (ls : List (List ℕ)) → full room r ≡ true → runLines room last r ls ≡ r
 unfolding runLines
 run-full room last r [] h = refl
 run-full room last r (l ∷ []) h = rw h refl
 run-full room last r (l ∷ m ∷ ls) h = rw h refl
 
-pub run-next : (room : ℕ) (last : Bool) (r : Run) (l : List ℕ) (b : ℕ) (s : List ℕ) → full room r ≡ false
+pub run-next : (room : ℕ) (last : Bool) (r : Portion) (l : List ℕ) (b : ℕ) (s : List ℕ) → full room r ≡ false
     → runLines room last r (l ∷ parts b s) ≡ runLines room last (lined r l) (parts b s)
 unfolding runLines
 run-next room last r l b s h =
@@ -47,7 +46,7 @@ run-next room last r l b s h =
     on : (ls : List (List ℕ)) → runLines room last r (l ∷ before b s ∷ ls) ≡ runLines room last (lined r l) (before b s ∷ ls)
     on ls = rw h refl
 
-pub run-last : (room : ℕ) (last : Bool) (r : Run) (l : List ℕ) → full room r ≡ false → runLines room last r (l ∷ []) ≡ rested last r l
+pub run-last : (room : ℕ) (last : Bool) (r : Portion) (l : List ℕ) → full room r ≡ false → runLines room last r (l ∷ []) ≡ rested last r l
 unfolding runLines
 run-last room last r l h = rw h refl
 
@@ -94,34 +93,34 @@ pub record Sofar (text : List ℕ) (last : Bool) (k₀ : Carried) (out₀ : List
   pub said : List ℕ
   pub long : made ≡ length said
   pub wrote : out ≡ sets out₀ 0 said
-  pub goes-on : runLines (length out₀) last (ran said at k) (parts 10 (drop at text)) ≡ runRule k₀ text last (length out₀)
+  pub goes-on : runLines (length out₀) last (portion said at k) (parts 10 (drop at text)) ≡ runRule k₀ text last (length out₀)
 
 pub sofar-start : (text : List ℕ) (last : Bool) (k : Carried) (out : List ℕ) → Sofar text last k out k 0 0 out
 unfolding runRule
 sofar-start text last k out = record { said = []; long = refl; wrote = refl; goes-on = refl }
 
-module _ (text : List ℕ) (last : Bool) (k₀ : Carried) (out₀ : List ℕ) (s : Station) (a : Areas) (at made end : ℕ) (out : List ℕ) (so : Sofar text last k₀ out₀ (carried s a) at made out) where
+module _ (text : List ℕ) (last : Bool) (k₀ : Carried) (out₀ : List ℕ) (s : Footing) (a : Areas) (at made end : ℕ) (out : List ℕ) (so : Sofar text last k₀ out₀ (carried s a) at made out) where
   -- one line more
-  pub sofar-next : (c : Call) (r : Stepped) (left : Areas) (behind : List ℕ)
+  pub sofar-next : (c : Command) (r : Stepped) (left : Areas) (behind : List ℕ)
       → made + longest ≤ length out₀
       → end ≡ endFrom text at
       → end < length text
-      → c ≡ cond (s .long) ill (callOf (take (end - at) (drop at text)))
+      → c ≡ cond (s .long) ill (commandOf (take (end - at) (drop at text)))
       → Steps (carried s a) c made out r left behind
-      → Sofar text last k₀ out₀ (carried (r .station) left) (end + 1) (r .end) behind
+      → Sofar text last k₀ out₀ (carried (r .footing) left) (end + 1) (r .end) behind
   unfolding lined
-  sofar-next c r left behind room is within call steps = record {
-    said = so .said ++ lineOf (turnIn (carried s a) c);
-    long = steps .ends ∙ ap (λ (n : ℕ). n + length (lineOf (turnIn (carried s a) c))) (so .long) ∙ sym (length-append (so .said) (lineOf (turnIn (carried s a) c)));
+  sofar-next c r left behind room is within command steps = record {
+    said = so .said ++ lineIn (carried s a) c;
+    long = steps .ends ∙ ap (λ (n : ℕ). n + length (lineIn (carried s a) c)) (so .long) ∙ sym (length-append (so .said) (lineIn (carried s a) c));
     wrote =
         steps .writes
-        ∙ ap (λ (l : List ℕ). sets l made (lineOf (turnIn (carried s a) c))) (so .wrote)
-        ∙ ap (λ (n : ℕ). sets (sets out₀ 0 (so .said)) n (lineOf (turnIn (carried s a) c))) (so .long ∙ sym (zero-left _))
-        ∙ sym (sets-append out₀ 0 (so .said) (lineOf (turnIn (carried s a) c)));
+        ∙ ap (λ (l : List ℕ). sets l made (lineIn (carried s a) c)) (so .wrote)
+        ∙ ap (λ (n : ℕ). sets (sets out₀ 0 (so .said)) n (lineIn (carried s a) c)) (so .long ∙ sym (zero-left _))
+        ∙ sym (sets-append out₀ 0 (so .said) (lineIn (carried s a) c));
     goes-on =
-        ap (λ (q : Run). runLines (length out₀) last q (parts 10 (drop (end + 1) text))) (sym same)
-        ∙ sym (run-next (length out₀) last (ran (so .said) at (carried s a)) l 10 (drop (end + 1) text) (full-no (length out₀) (ran (so .said) at (carried s a)) (omega (arith, so .long, room))))
-        ∙ ap (runLines (length out₀) last (ran (so .said) at (carried s a))) (sym (line-here text at end is within .1))
+        ap (λ (q : Portion). runLines (length out₀) last q (parts 10 (drop (end + 1) text))) (sym same)
+        ∙ sym (run-next (length out₀) last (portion (so .said) at (carried s a)) l 10 (drop (end + 1) text) (full-no (length out₀) (portion (so .said) at (carried s a)) (omega (arith, so .long, room))))
+        ∙ ap (runLines (length out₀) last (portion (so .said) at (carried s a))) (sym (line-here text at end is within .1))
         ∙ so .goes-on;
   }
     where
@@ -131,30 +130,30 @@ module _ (text : List ℕ) (last : Bool) (k₀ : Carried) (out₀ : List ℕ) (s
       zero-left : (n : ℕ) → 0 + n ≡ n
       zero-left n = omega arith
 
-      named : c ≡ callIn (carried s a) l
-      named = call ∙ ap (λ (x : List ℕ). cond (s .long) ill (callOf x)) (line-here text at end is within .0)
+      named : c ≡ commandIn (carried s a) l
+      named = command ∙ ap (λ (x : List ℕ). cond (s .long) ill (commandOf x)) (line-here text at end is within .0)
 
-      same : lined (ran (so .said) at (carried s a)) l
-          ≡ ran (so .said ++ lineOf (turnIn (carried s a) c)) (end + 1) (carried (r .station) left)
+      same : lined (portion (so .said) at (carried s a)) l
+          ≡ portion (so .said ++ lineIn (carried s a) c) (end + 1) (carried (r .footing) left)
       same =
-          ap (λ (x : Call). ran (so .said ++ lineOf (turnIn (carried s a) x)) (at + length l + 1) (stepped (carried s a) x)) (sym named)
-          ∙ ap (λ (n : ℕ). ran (so .said ++ lineOf (turnIn (carried s a) c)) n (stepped (carried s a) c)) (sym (line-here text at end is within .2))
-          ∙ ap (ran (so .said ++ lineOf (turnIn (carried s a) c)) (end + 1)) (sym (steps .carries))
+          ap (λ (x : Command). portion (so .said ++ lineIn (carried s a) x) (at + length l + 1) (stepped (carried s a) x)) (sym named)
+          ∙ ap (λ (n : ℕ). portion (so .said ++ lineIn (carried s a) c) n (stepped (carried s a) c)) (sym (line-here text at end is within .2))
+          ∙ ap (portion (so .said ++ lineIn (carried s a) c) (end + 1)) (sym (steps .carries))
 
   -- no room for one more
   pub sofar-full : length out₀ < made + longest
-      → Runs (runRule k₀ text last (length out₀)) out₀ (record { station = s; taken = at; made = made }) a out
+      → Yields (runRule k₀ text last (length out₀)) out₀ (record { footing = s; taken = at; made = made }) a out
   sofar-full h = record {
-    takes = ap (λ (q : Run). q .taken) is;
-    makes = so .long ∙ ap (λ (q : Run). length (q .said)) is;
-    carries = ap (λ (q : Run). q .on .station) is;
-    leaves = ap (λ (q : Run). q .on .lent) is;
-    writes = so .wrote ∙ ap (λ (q : Run). sets out₀ 0 (q .said)) is;
+    takes = ap (λ (q : Portion). q .taken) is;
+    makes = so .long ∙ ap (λ (q : Portion). length (q .said)) is;
+    carries = ap (λ (q : Portion). q .on .footing) is;
+    leaves = ap (λ (q : Portion). q .on .lent) is;
+    writes = so .wrote ∙ ap (λ (q : Portion). sets out₀ 0 (q .said)) is;
   }
     where
-      is : ran (so .said) at (carried s a) ≡ runRule k₀ text last (length out₀)
+      is : portion (so .said) at (carried s a) ≡ runRule k₀ text last (length out₀)
       is =
-          sym (run-full (length out₀) last (ran (so .said) at (carried s a)) (parts 10 (drop at text)) (full-yes (length out₀) (ran (so .said) at (carried s a)) (omega (arith, so .long, h))))
+          sym (run-full (length out₀) last (portion (so .said) at (carried s a)) (parts 10 (drop at text)) (full-yes (length out₀) (portion (so .said) at (carried s a)) (omega (arith, so .long, h))))
           ∙ so .goes-on
 
   -- the end of the text
@@ -164,25 +163,25 @@ module _ (text : List ℕ) (last : Bool) (k₀ : Carried) (out₀ : List ℕ) (s
       → end ≡ endFrom text at
       → length text ≤ end
       → Rests s at (end - at) last made out r behind
-      → Runs (runRule k₀ text last (length out₀)) out₀ r a behind
+      → Yields (runRule k₀ text last (length out₀)) out₀ r a behind
   unfolding rested
   sofar-rest r behind room h is past rests = record {
-    takes = rests .takes ∙ ap (λ (n : ℕ). at + restOf last s n .1) n-is ∙ ap (λ (q : Run). q .taken) run;
+    takes = rests .takes ∙ ap (λ (n : ℕ). at + restOf last s n .1) n-is ∙ ap (λ (q : Portion). q .taken) run;
     makes =
         rests .makes
         ∙ ap (λ (n : ℕ). made + length (restOf last s n .0)) n-is
         ∙ ap (λ (n : ℕ). n + length (restOf last s (length (drop at text)) .0)) (so .long)
         ∙ sym (length-append (so .said) (restOf last s (length (drop at text)) .0))
-        ∙ ap (λ (q : Run). length (q .said)) run;
-    carries = rests .carries ∙ ap (λ (n : ℕ). restOf last s n .2) n-is ∙ ap (λ (q : Run). q .on .station) run;
-    leaves = ap (λ (q : Run). q .on .lent) run;
+        ∙ ap (λ (q : Portion). length (q .said)) run;
+    carries = rests .carries ∙ ap (λ (n : ℕ). restOf last s n .2) n-is ∙ ap (λ (q : Portion). q .on .footing) run;
+    leaves = ap (λ (q : Portion). q .on .lent) run;
     writes =
         rests .writes
         ∙ ap (λ (n : ℕ). sets out made (restOf last s n .0)) n-is
         ∙ ap (λ (x : List ℕ). sets x made (restOf last s (length (drop at text)) .0)) (so .wrote)
         ∙ ap (λ (n : ℕ). sets (sets out₀ 0 (so .said)) n (restOf last s (length (drop at text)) .0)) (so .long ∙ sym (zero-left _))
         ∙ sym (sets-append out₀ 0 (so .said) (restOf last s (length (drop at text)) .0))
-        ∙ ap (λ (q : Run). sets out₀ 0 (q .said)) run;
+        ∙ ap (λ (q : Portion). sets out₀ 0 (q .said)) run;
   }
     where
       zero-left : (n : ℕ) → 0 + n ≡ n
@@ -191,8 +190,8 @@ module _ (text : List ℕ) (last : Bool) (k₀ : Carried) (out₀ : List ℕ) (s
       n-is : end - at ≡ length (drop at text)
       n-is = line-left text at end h is past .1
 
-      run : rested last (ran (so .said) at (carried s a)) (drop at text) ≡ runRule k₀ text last (length out₀)
+      run : rested last (portion (so .said) at (carried s a)) (drop at text) ≡ runRule k₀ text last (length out₀)
       run =
-          sym (run-last (length out₀) last (ran (so .said) at (carried s a)) (drop at text) (full-no (length out₀) (ran (so .said) at (carried s a)) (omega (arith, so .long, room))))
-          ∙ ap (runLines (length out₀) last (ran (so .said) at (carried s a))) (sym (line-left text at end h is past .0))
+          sym (run-last (length out₀) last (portion (so .said) at (carried s a)) (drop at text) (full-no (length out₀) (portion (so .said) at (carried s a)) (omega (arith, so .long, room))))
+          ∙ ap (runLines (length out₀) last (portion (so .said) at (carried s a))) (sym (line-left text at end h is past .0))
           ∙ so .goes-on

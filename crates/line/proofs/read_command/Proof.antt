@@ -1,21 +1,21 @@
--- `line::read_call` meets its contract. Assumes nothing.
+-- `line::read_command` meets its contract. Assumes nothing.
 use mathlib.Core.Path.{_≡_, sym, ap, _∙_}
 use mathlib.Core.Bool.{Bool, true, false, cond, _&&_}
 use Prim.Native.Nat.{_≤_}
 use lib.ListN.{length}
 use lib.Dec.{eqb}
 use borrow.Author.Needs.{needs}
-use Rattle.line.specs.Line.{call, ill, callOf, longest}
-use Rattle.line.proofs.Fields.{name-inside, call-long, call-named, called-read}
-use Rattle.line.proofs.read_call.Statement.{statement}
-use Rattle.line.proofs.read_call.Tie as tie
+use Rattle.line.specs.Line.{command, ill, commandOf, longest}
+use Rattle.line.proofs.Fields.{name-inside, command-long, command-named, called-read}
+use Rattle.line.proofs.read_command.Statement.{statement}
+use Rattle.line.proofs.read_command.Tie as tie
 
 ill-formed-requires : tie.Need-ill-formed-requires
 ill-formed-requires c κs = search needs
 
 returns : tie.Need-returns
 unfolding longest
-returns c = c .ill-formed .ensures ∙ call-long _ (c .before .if1 .taken)
+returns c = c .ill-formed .ensures ∙ command-long _ (c .before .if1 .taken)
 
 find-requires : tie.Need-find-requires
 find-requires c κs = search needs
@@ -61,8 +61,8 @@ says : (c : tie.After-body-at) (t : Bool)
     let b = c .before .before .number-at2 .result in
     let e = c .body-at .result in
     (a .good && b .good && e .good && eqb (e .end) (length (start .args .line .now))) ≡ t
-    → callOf (start .args .line .now)
-    ≡ cond t (call (c .before .before .before .before .before .verb-of .result) (a .value) (b .value) (e .bytes)) ill
+    → commandOf (start .args .line .now)
+    ≡ cond t (command (c .before .before .before .before .before .verb-of .result) (a .value) (b .value) (e .bytes)) ill
 unfolding longest
 says c t test =
     let first = c .before .before .before in
@@ -73,7 +73,7 @@ says c t test =
     let a = first .number-at .result in
     let b = c .before .before .number-at2 .result in
     let e = c .body-at .result in
-    call-named line (found .find .result) v (found .before .if1 .left) (found .find .ensures) (named .verb-of .ensures)
+    command-named line (found .find .result) v (found .before .if1 .left) (found .find .ensures) (named .verb-of .ensures)
     ∙ called-read line v (first .before .numbers .result) (c .before .has-body .result) (found .find .result) a b e
     (record {
       numbers = first .before .numbers .ensures;
@@ -83,7 +83,7 @@ says c t test =
       last = c .body-at .ensures .1;
       inside = c .body-at .ensures .0;
     })
-    ∙ ap (λ (u : Bool). cond u (call v (a .value) (b .value) (e .bytes)) ill) test
+    ∙ ap (λ (u : Bool). cond u (command v (a .value) (b .value) (e .bytes)) ill) test
 
 returns-2 : tie.Need-returns-2
 returns-2 c = sym (says (c .before .before .before .before .before .before) true (c .if2 .taken))
@@ -93,8 +93,8 @@ returns-3 c =
     let left = c .before in
     c .ill-formed2 .ensures ∙ sym (says (left .before .before .before .before .before .before) false (left .if2 .left))
 
-pub read-call-spec : {M : Type 1} → statement M
-read-call-spec =
+pub read-command-spec : {M : Type 1} → statement M
+read-command-spec =
     tie.close
     (tie.spec
     ill-formed-requires

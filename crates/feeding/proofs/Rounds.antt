@@ -8,19 +8,19 @@ use lib.ListN.{length, take, drop, length-drop, take-append-drop}
 use lib.Seq.{length-take-le, take-take, take-append-seam, take-append-add, drop-append-seam}
 use lib.Dec.{eqb}
 use Rattle.kind.specs.Areas.{Areas}
-use Rattle.script.specs.declared.Station.{Station}
+use Rattle.script.specs.declared.Footing.{Footing}
 use Rattle.script.specs.Script.{Carried, carried}
 use Rattle.feeding.specs.declared.Filled.{Filled}
 use Rattle.feeding.specs.declared.Fed.{Fed}
-use Rattle.feeding.specs.Feeding.{Fills, Stand, stand, runOf, after, Answers, isNone, Turns}
+use Rattle.feeding.specs.Feeding.{Fills, Stand, stand, runOf, after, Serves, isNone, Rounds}
 use Rattle.feeding.proofs.Readings.{longer}
-use Rattle.feeding.proofs.Answered.{after-left, after-short}
+use Rattle.feeding.proofs.Served.{after-left, after-short}
 
 -- nothing could be read: nothing is done
-pub turn-failed : (s : Station) (a : Areas) (kept : ℕ) (before behind : List ℕ) (room : ℕ) (f : Filled) → kept ≤ length before → Fills kept before behind f
-    → Turns (carried s a) kept before room (record { station = s; kept = kept; more = false }) a behind
+pub round-failed : (s : Footing) (a : Areas) (kept : ℕ) (before behind : List ℕ) (room : ℕ) (f : Filled) → kept ≤ length before → Fills kept before behind f
+    → Rounds (carried s a) kept before room (record { footing = s; kept = kept; more = false }) a behind
 unfolding after
-turn-failed s a kept before behind room f h fills = record {
+round-failed s a kept before behind room f h fills = record {
   piece = [];
   answers = record {
     runs = 0;
@@ -43,7 +43,7 @@ front-part i n l h =
 
 -- some text was read, and answered
 module _ (k : Carried) (kept : ℕ) (before text : List ℕ) (room : ℕ) (f : Filled) (r : Fed) (left : Areas)
-    (long : length text ≡ length before) (fills : Fills kept before text f) (answered : Answers (f .last) room (stand k (take (f .end) text)) r left) where
+    (long : length text ≡ length before) (fills : Fills kept before text f) (answered : Serves (f .last) room (stand k (take (f .end) text)) r left) where
   abbrev read : List ℕ
   read = drop kept (take (f .end) text)
 
@@ -70,7 +70,7 @@ module _ (k : Carried) (kept : ℕ) (before text : List ℕ) (room : ℕ) (f : F
       ap (λ (b : Bool). after b room (stand k (take (f .end) text)) n) last-is
       ∙ ap (λ (l : List ℕ). after (isNone read) room (stand k l) n) text-is
 
-  answers : Answers (isNone read) room (stand k (take kept before ++ read)) r left
+  answers : Serves (isNone read) room (stand k (take kept before ++ read)) r left
   answers = record {
     runs = answered .runs;
     carries = answered .carries ∙ ap (λ (s : Stand). s .on) (same (answered .runs));
@@ -88,11 +88,11 @@ module _ (k : Carried) (kept : ℕ) (before text : List ℕ) (room : ℕ) (f : F
   pub kept-within : r .kept ≤ f .end
   kept-within = omega (arith, answered .keeps, after-short (f .last) room (stand k (take (f .end) text)) (answered .runs), ends)
 
-  pub turn-read : (behind : List ℕ)
+  pub round-read : (behind : List ℕ)
       → behind ≡ take (f .end - (f .end - r .kept)) (drop (f .end - r .kept) text) ++ drop (f .end - (f .end - r .kept)) text
-      → Turns k kept before room r left behind
+      → Rounds k kept before room r left behind
   unfolding answers
-  turn-read behind e = record {
+  round-read behind e = record {
     piece = read;
     answers = answers;
     keeps =

@@ -1,4 +1,4 @@
--- `feeding::answer` meets its contract: each run goes on where the one before it ended, and takes something, or it is the last. Assumes nothing.
+-- `feeding::serve` meets its contract: each run goes on where the one before it ended, and takes something, or it is the last. Assumes nothing.
 use Prim.Native.Nat.{ℕ, zero, suc, _+_, _-_, _^_, _≤_, _<_}
 use native.Mathlib.Omega.{arith}
 use mathlib.Core.Path.{_≡_, refl, sym}
@@ -11,9 +11,9 @@ use Rattle.kind.specs.Areas.{areas}
 use Rattle.script.specs.Script.{carried}
 use Rattle.feeding.specs.Feeding.{stand}
 use Rattle.feeding.proofs.Readings.{part-long}
-use Rattle.feeding.proofs.Answered.{Sofar, sofar-start, sofar-next, answered}
-use Rattle.feeding.proofs.answer.Statement.{statement}
-use Rattle.feeding.proofs.answer.Tie as tie
+use Rattle.feeding.proofs.Served.{Sofar, sofar-start, sofar-next, answered}
+use Rattle.feeding.proofs.serve.Statement.{statement}
+use Rattle.feeding.proofs.serve.Tie as tie
 
 -- a run that did not stop has taken something
 some : (said : Bool) (n : ℕ) → (not said || eqb n 0) ≡ false → 1 ≤ n
@@ -120,8 +120,8 @@ same-length-8 c = search needs
 returns-2 : tie.Need-returns-2 Inv-loop μ-loop
 returns-2 c = absurd (omega (arith, c .before .loop .inv .0))
 
-pub answer-spec : {M : Type 1} → statement M
-answer-spec =
+pub serve-spec : {M : Type 1} → statement M
+serve-spec =
     tie.close
     (tie.spec
     Inv-loop

@@ -13,12 +13,12 @@ use Rattle.ground.proofs.Ranges.{lt-or-le}
 use Rattle.kind.specs.Areas.{Areas}
 use Rattle.line.specs.Line.{longest as longestLine}
 use Rattle.reply.specs.Reply.{longest as longestAnswer}
-use Rattle.script.specs.declared.Station.{Station}
+use Rattle.script.specs.declared.Footing.{Footing}
 use Rattle.script.specs.declared.Ran.{Ran}
-use Rattle.script.specs.Script.{Carried, carried, Run, runRule, Runs}
+use Rattle.script.specs.Script.{Carried, carried, Portion, runRule, Yields}
 use Rattle.script.proofs.Promises.{run-goes-on-long}
 use Rattle.feeding.specs.declared.Fed.{Fed}
-use Rattle.feeding.specs.Feeding.{Stand, stand, runOf, after, Answers}
+use Rattle.feeding.specs.Feeding.{Stand, stand, runOf, after, Serves}
 
 -- ---- some runs of a text
 
@@ -32,7 +32,7 @@ sofar-start last room k text = record { runs = 0; stands = refl }
 
 -- a run of what is left behind a place
 module _ (last : Bool) (room : ℕ) (s₀ : Stand) (k : Carried) (text : List ℕ) (at : ℕ) (so : Sofar last room s₀ (stand k (drop at text))) (out : List ℕ) (r : Ran) (left : Areas) (behind : List ℕ)
-    (roomy : length out ≡ room) (ran : Runs (runRule k (take (length text - at) (drop at text)) last (length out)) out r left behind) where
+    (roomy : length out ≡ room) (ran : Yields (runRule k (take (length text - at) (drop at text)) last (length out)) out r left behind) where
   -- it is the rule's next
   same : runRule k (take (length text - at) (drop at text)) last (length out) ≡ runOf last room (after last room s₀ (so .runs))
   same =
@@ -41,10 +41,10 @@ module _ (last : Bool) (room : ℕ) (s₀ : Stand) (k : Carried) (text : List �
       ∙ ap (runOf last room) (so .stands)
 
   took : r .taken ≡ runOf last room (after last room s₀ (so .runs)) .taken
-  took = ran .takes ∙ ap (λ (w : Run). w .taken) same
+  took = ran .takes ∙ ap (λ (w : Portion). w .taken) same
 
-  on : carried (r .station) left ≡ runOf last room (after last room s₀ (so .runs)) .on
-  on = ap (λ (s : Station). carried s left) (ran .carries) ∙ ap (carried _) (ran .leaves) ∙ ap (λ (w : Run). w .on) same
+  on : carried (r .footing) left ≡ runOf last room (after last room s₀ (so .runs)) .on
+  on = ap (λ (s : Footing). carried s left) (ran .carries) ∙ ap (carried _) (ran .leaves) ∙ ap (λ (w : Portion). w .on) same
 
   behind-it : drop (at + r .taken) text ≡ drop (runOf last room (after last room s₀ (so .runs)) .taken) (after last room s₀ (so .runs) .left)
   behind-it =
@@ -52,7 +52,7 @@ module _ (last : Bool) (room : ℕ) (s₀ : Stand) (k : Carried) (text : List �
       ∙ ap (λ (n : ℕ). drop n (drop at text)) took
       ∙ ap (λ (s : Stand). drop (runOf last room (after last room s₀ (so .runs)) .taken) (s .left)) (so .stands)
 
-  pub sofar-next : Sofar last room s₀ (stand (carried (r .station) left) (drop (at + r .taken) text))
+  pub sofar-next : Sofar last room s₀ (stand (carried (r .footing) left) (drop (at + r .taken) text))
   unfolding after
   sofar-next = record {
     runs = suc (so .runs);
@@ -62,12 +62,12 @@ module _ (last : Bool) (room : ℕ) (s₀ : Stand) (k : Carried) (text : List �
   -- the last of them
   pub answered : (written : Bool) (f : Fed)
       → (not written || eqb (r .taken) 0) ≡ true
-      → f ≡ record { station = r .station; kept = length text - (at + r .taken); more = written && not last }
-      → Answers last room s₀ f left
+      → f ≡ record { footing = r .footing; kept = length text - (at + r .taken); more = written && not last }
+      → Serves last room s₀ f left
   unfolding after
   answered written f stops e = record {
     runs = suc (so .runs);
-    carries = ap (λ (x : Fed). carried (x .station) left) e ∙ on;
+    carries = ap (λ (x : Fed). carried (x .footing) left) e ∙ on;
     keeps = ap (λ (x : Fed). x .kept) e ∙ sym (length-drop (at + r .taken) text) ∙ ap length behind-it;
     written = written;
     more = ap (λ (x : Fed). x .more) e;
@@ -112,7 +112,7 @@ pub after-short : (last : Bool) (room : ℕ) (s : Stand) (n : ℕ) → length (a
 after-short last room s n = let e = after-end last room s n in omega (arith, ap length (e .1), length-drop (e .0) (s .left))
 
 -- where more is to be read, what is left is no longer than a line may be: so there is room behind it
-pub answers-short : (last : Bool) (room : ℕ) (s : Stand) (f : Fed) (left : Areas) → Answers last room s f left → longestAnswer ≤ room → f .more ≡ true → f .kept ≤ longestLine
+pub answers-short : (last : Bool) (room : ℕ) (s : Stand) (f : Fed) (left : Areas) → Serves last room s f left → longestAnswer ≤ room → f .more ≡ true → f .kept ≤ longestLine
 unfolding after
 answers-short last room s f left a roomy more = by (a .all (yes (a .written) (sym (a .more) ∙ more)))
   where
