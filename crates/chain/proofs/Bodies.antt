@@ -50,30 +50,31 @@ nothing : (p : ℕ × ℕ) → _≡_ {A = ℕ × ℕ} (p .0, 0 + p .1) p
 nothing p = ap (λ (n : ℕ). (p .0, n)) (omega arith)
 
 module _ {place : Place} (d u : List ℕ) (pd pu : ℕ × ℕ) where
-  pub hand-slot : {at : ℕ} (r : ℕ) → place ≡ Data r → r < rows d → at ≡ slotPlace r
+  -- n is how many there are
+  pub hand-slot : {at n : ℕ} (r : ℕ) → place ≡ Data r → n ≡ rows d → r < n → at ≡ slotPlace r
       → Handed place d u pd pu (take (at + 32 + 32 - (at + 32)) (drop (at + 32) d)) (pd .0, at + 32 + pd .1)
   unfolding bodyOf bodyFrom
-  hand-slot {at} r is inside found = (
-    rw (is, lt-ltb r (rows d) inside) (bodyAt-cut r d found),
-    rw (is, lt-ltb r (rows d) inside) (ap (λ (n : ℕ). (pd .0, n)) (omega arith)),
+  hand-slot {at} r is all inside found = (
+    rw (is, lt-ltb r (rows d) (omega arith)) (bodyAt-cut r d found),
+    rw (is, lt-ltb r (rows d) (omega arith)) (ap (λ (n : ℕ). (pd .0, n)) (omega arith)),
   )
 
-  pub hand-copy : {at : ℕ} (e : ℕ) → place ≡ Undo e → e < entries u → at ≡ entryPlace e
+  pub hand-copy : {at n : ℕ} (e : ℕ) → place ≡ Undo e → n ≡ entries u → e < n → at ≡ entryPlace e
       → Handed place d u pd pu (take (at + 48 + 32 - (at + 48)) (drop (at + 48) u)) (pu .0, at + 48 + pu .1)
   unfolding bodyOf bodyFrom
-  hand-copy {at} e is inside found = (
-    rw (is, lt-ltb e (entries u) inside) (copyBodyAt-cut e u found),
-    rw (is, lt-ltb e (entries u) inside) (ap (λ (n : ℕ). (pu .0, n)) (omega arith)),
+  hand-copy {at} e is all inside found = (
+    rw (is, lt-ltb e (entries u) (omega arith)) (copyBodyAt-cut e u found),
+    rw (is, lt-ltb e (entries u) (omega arith)) (ap (λ (n : ℕ). (pu .0, n)) (omega arith)),
   )
 
   pub hand-none : place ≡ Nowhere → Handed place d u pd pu [] (pd .0, 0 + pd .1)
   unfolding bodyOf bodyFrom
   hand-none is = (rw is, rw is (nothing pd))
 
-  pub hand-no-slot : (r : ℕ) → place ≡ Data r → rows d ≤ r → Handed place d u pd pu [] (pd .0, 0 + pd .1)
+  pub hand-no-slot : {n : ℕ} (r : ℕ) → place ≡ Data r → n ≡ rows d → n ≤ r → Handed place d u pd pu [] (pd .0, 0 + pd .1)
   unfolding bodyOf bodyFrom
-  hand-no-slot r is outside = (rw (is, le-ltb r (rows d) outside), rw (is, le-ltb r (rows d) outside) (nothing pd))
+  hand-no-slot r is all outside = (rw (is, le-ltb r (rows d) (omega arith)), rw (is, le-ltb r (rows d) (omega arith)) (nothing pd))
 
-  pub hand-no-copy : (e : ℕ) → place ≡ Undo e → entries u ≤ e → Handed place d u pd pu [] (pd .0, 0 + pd .1)
+  pub hand-no-copy : {n : ℕ} (e : ℕ) → place ≡ Undo e → n ≡ entries u → n ≤ e → Handed place d u pd pu [] (pd .0, 0 + pd .1)
   unfolding bodyOf bodyFrom
-  hand-no-copy e is outside = (rw (is, le-ltb e (entries u) outside), rw (is, le-ltb e (entries u) outside) (nothing pd))
+  hand-no-copy e is all outside = (rw (is, le-ltb e (entries u) (omega arith)), rw (is, le-ltb e (entries u) (omega arith)) (nothing pd))

@@ -187,9 +187,11 @@ module _ (p : Slot → Bool) (whole : Bool) where
 
 -- ---- the walk, case by case
 
-pub follow-run : (u s : List ℕ) (v : View) (r ptr : ℕ) → followRule u s v r ptr ≡ run u r (thereIn v s) (entries u) 1 (linkOf u r ptr)
+pub follow-run : {most : ℕ} (u s : List ℕ) (v : View) (r ptr : ℕ) → most ≡ entries u
+    → followRule u s v r ptr ≡ run u r (thereIn v s) most 1 (linkOf u r ptr)
 unfolding followRule
-follow-run u s v r ptr = chain-run u r (thereIn v s) (entries u) 1 ptr
+follow-run u s v r ptr all =
+    chain-run u r (thereIn v s) (entries u) 1 ptr ∙ ap (λ (n : ℕ). run u r (thereIn v s) n 1 (linkOf u r ptr)) (sym all)
 
 -- what sight answered of a version
 pub there-found : {b t : Bool} {x : Stamp} (v : View) (s : List ℕ) (m : Slot) → b ≡ there v s x → x ≡ stampOf m → b ≡ t → thereIn v s m ≡ t

@@ -1,6 +1,5 @@
 // A row's versions, from the slot along the undo pointers ("01, Sessions and sight"), and the walk that finds the one that a session
 // reads. The walk counts its steps and keeps no list of the entries passed; that this is the same is shown in proofs/.
-use kind::Kind;
 use pointer::Lead;
 use pointer::Pointer;
 use records::entry::Entry;
@@ -42,7 +41,7 @@ pub fn follow(undo: &[u8], row: usize, ptr: u64) -> Link
     ensures { λ r. ⌜ r ≡ linkOf (now (undo .entry)) row ptr ⌝ }
 {
     let pointer = Pointer { raw: ptr };
-    let lead = pointer.lead(undo.len() / Kind::PAGE);
+    let lead = pointer.lead(kind::pages(undo));
     match lead {
         Lead::Nowhere => Link::End,
         Lead::Astray => Link::Break,
@@ -95,7 +94,7 @@ fn search_copies<'a>(
     requires { ⌜ length (now status) ≡ pageSize ⌝ }
     ensures { λ r. ⌜ r ≡ followRule (now (undo .entry)) (now (status .entry)) (viewOf number statement (now (list .entry))) row first ⌝ }
 {
-    let most = undo.len() / Kind::PAGE * Kind::UNDO.count;
+    let most = kind::entries(undo);
     let mut ptr = first;
     let mut looked = 1;
     let found = loop {
@@ -149,14 +148,14 @@ pub fn body<'a>(data: &'a [u8], undo: &'a [u8], place: Place) -> &'a [u8]
     match place {
         Place::Nowhere => &data[0..0],
         Place::Data(r) => {
-            if r < data.len() / Kind::PAGE * Kind::DATA.count {
+            if r < kind::rows(data) {
                 let at = records::slot::place(r) + 32;
                 return &data[at..at + 32];
             }
             &data[0..0]
         }
         Place::Undo(e) => {
-            if e < undo.len() / Kind::PAGE * Kind::UNDO.count {
+            if e < kind::entries(undo) {
                 let at = records::entry::place(e) + 48;
                 return &undo[at..at + 32];
             }

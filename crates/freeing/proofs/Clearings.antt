@@ -7,13 +7,13 @@ use lib.ListN.{replicate}
 use lib.Seq.{sets}
 use Rattle.little.specs.Little.{Bytes}
 use Rattle.kind.specs.Kind.{rows, entries, dataKind, undoKind}
-use Rattle.records.specs.Slot.{slotBytes, slotAt, putMeta, clearSlot}
+use Rattle.records.specs.Slot.{slotBytes, slotAt, putMeta, clearSlot, unlinked}
 use Rattle.records.specs.Entry.{entryBytes, entryAt, putCopy, clearEntry}
 use Rattle.records.proofs.Slots.{slots-lie}
 use Rattle.records.proofs.Entries.{entries-lie}
 use Rattle.page.proofs.Counts.{recordAt-counted, recordAt-touched}
 use Rattle.freeing.specs.Freeing.{withoutSlot, withoutEntry, sweptSlot, sweptEntry, cutSlot, cutCopy}
-use Rattle.records.proofs.Stores.{slotBytes-clearSlot, entryBytes-clearEntry, cutOff, slotBytes-cut, entryBytes-cut}
+use Rattle.records.proofs.Stores.{slotBytes-clearSlot, entryBytes-clearEntry, slotBytes-cut, entryBytes-cut}
 
 -- ---- a slot
 
@@ -27,9 +27,9 @@ module _ (r : ℕ) (d : List ℕ) (row : r < rows d) where
   sweptSlot-zeros = recordAt-counted slots-lie dataKind (r / 127) r (clearSlot r d) ∙ slotBytes-clearSlot r d row
 
   -- its pointer becomes 0, and nothing else
-  pub cutSlot-zeros : Bytes d → slotBytes r (cutSlot r (cutOff (slotAt r d)) d) ≡ sets (slotBytes r d) 16 (replicate 8 0)
+  pub cutSlot-zeros : Bytes d → slotBytes r (cutSlot r (unlinked (slotAt r d)) d) ≡ sets (slotBytes r d) 16 (replicate 8 0)
   unfolding cutSlot
-  cutSlot-zeros b = recordAt-counted slots-lie dataKind (r / 127) r (putMeta r (cutOff (slotAt r d)) d) ∙ slotBytes-cut r d b row
+  cutSlot-zeros b = recordAt-counted slots-lie dataKind (r / 127) r (putMeta r (unlinked (slotAt r d)) d) ∙ slotBytes-cut r d b row
 
 -- ---- an entry
 
@@ -42,6 +42,6 @@ module _ (e : ℕ) (u : List ℕ) (here : e < entries u) where
   unfolding sweptEntry
   sweptEntry-zeros = recordAt-counted entries-lie undoKind (e / 101) e (clearEntry e u) ∙ entryBytes-clearEntry e u here
 
-  pub cutCopy-zeros : Bytes u → entryBytes e (cutCopy e (cutOff (entryAt e u .copy)) u) ≡ sets (entryBytes e u) 32 (replicate 8 0)
+  pub cutCopy-zeros : Bytes u → entryBytes e (cutCopy e (unlinked (entryAt e u .copy)) u) ≡ sets (entryBytes e u) 32 (replicate 8 0)
   unfolding cutCopy
-  cutCopy-zeros b = recordAt-counted entries-lie undoKind (e / 101) e (putCopy e (cutOff (entryAt e u .copy)) u) ∙ entryBytes-cut e u b here
+  cutCopy-zeros b = recordAt-counted entries-lie undoKind (e / 101) e (putCopy e (unlinked (entryAt e u .copy)) u) ∙ entryBytes-cut e u b here

@@ -3,21 +3,18 @@
 use mathlib.Core.Path.{_≡_, ap, _∙_}
 use mathlib.Core.List.{List}
 use Prim.Native.Nat.{ℕ, _/_, _<_}
-use lib.ListN.{length}
 use Rattle.little.specs.Little.{Bytes}
-use Rattle.kind.specs.declared.Kind.{Kind}
 use Rattle.kind.specs.Kind.{rows, entries, dataKind, undoKind}
-use Rattle.kind.specs.Place.{recordAt}
-use Rattle.kind.proofs.Places.{Lie, Within, within-other, length-within}
 use Rattle.records.specs.declared.slot.Slot.{Slot}
 use Rattle.records.specs.declared.entry.Entry.{Entry}
 use Rattle.records.specs.Slot.{slotAt, bodyAt, putMeta, clearSlot}
 use Rattle.records.specs.Entry.{entryAt, copyBodyAt, putCopy, clearEntry}
-use Rattle.records.proofs.Slots.{SlotFit, slots-lie, slotAt-same, bodyAt-same, slotOf-zeros, putMeta-within, clearSlot-within, slotAt-putMeta-same, bodyAt-putMeta-same, slotAt-clearSlot-same}
-use Rattle.records.proofs.Entries.{entries-lie, entryAt-same, copyBodyAt-same, entryOf-zeros, putCopy-within, clearEntry-within, entryAt-putCopy-same, copyBodyAt-putCopy-same, entryAt-clearEntry-same}
+use Rattle.records.proofs.Slots.{SlotFit, slots-lie, slotOf-zeros, putMeta-within, clearSlot-within, slotAt-putMeta-same, bodyAt-putMeta-same, slotAt-clearSlot-same}
+use Rattle.records.proofs.Entries.{entries-lie, entryOf-zeros, putCopy-within, clearEntry-within, entryAt-putCopy-same, copyBodyAt-putCopy-same, entryAt-clearEntry-same}
 use Rattle.records.proofs.Fits.{bytes-putMeta, bytes-clearSlot, bytes-putCopy, bytes-clearEntry}
-use Rattle.page.specs.Count.{counted, touched}
-use Rattle.page.proofs.Counts.{length-counted, length-touched, bytes-counted, bytes-touched, recordAt-counted, recordAt-touched, slotAt-counted, bodyAt-counted, slotAt-touched, entryAt-counted, copyBodyAt-counted, entryAt-touched}
+use Rattle.page.specs.Count.{touched}
+use Rattle.page.proofs.Counts.{bytes-counted, bytes-touched, slotAt-counted, bodyAt-counted, slotAt-touched, entryAt-counted, copyBodyAt-counted, entryAt-touched}
+use Rattle.page.proofs.Stored.{StoredSlot, StoredEntry, stored-counted, stored-touched}
 use Rattle.freeing.specs.Freeing.{withoutSlot, withoutEntry, sweptSlot, sweptEntry, cutSlot, cutCopy}
 
 -- ---- what the functions of withdraw compute: y is the area written, z the area touched
@@ -30,63 +27,17 @@ pub withoutEntry-stored : {y z : List ℕ} (txn e : ℕ) (u : List ℕ) → y �
 unfolding withoutEntry
 withoutEntry-stored txn e u p h = h ∙ ap (touched undoKind (e / 101) txn) p
 
--- ---- what is left as it was: said once, over the record size, of any store inside a record whose page is then touched or counted
--- anew. Of that step only this is needed: it leaves every record, and the length
-
-pub record Stored (size count r : ℕ) (s z : List ℕ) : Type 0 where
-  pub stored : List ℕ
-  pub within : Within 8192 size count r s stored
-  pub long : length z ≡ length stored
-  pub records : (t : ℕ) → recordAt 8192 size count t z ≡ recordAt 8192 size count t stored
-
-module _ {size count r : ℕ} {s : List ℕ} (lie : Lie 8192 size count) (y : List ℕ) (w : Within 8192 size count r s y) (k : Kind) (p : ℕ) where
-  stored-counted : Stored size count r s (counted k p y)
-  stored-counted =
-      record { stored = y; within = w; long = length-counted k p y; records = λ t. recordAt-counted lie k p t y }
-
-  stored-touched : (txn : ℕ) → Stored size count r s (touched k p txn y)
-  stored-touched txn =
-      record { stored = y; within = w; long = length-touched k p txn y; records = λ t. recordAt-touched lie k p t y txn }
-
-module _ {size count r : ℕ} {s z : List ℕ} (lie : Lie 8192 size count) (w : Stored size count r s z) where
-  pub length-stored : length z ≡ length s
-  length-stored = w .long ∙ length-within lie (w .within)
-
-  record-other : (t : ℕ) → (t ≡ r → ⊥) → recordAt 8192 size count t z ≡ recordAt 8192 size count t s
-  record-other t ne = w .records t ∙ within-other lie (w .within) t ne
-
-abbrev pub StoredSlot : ℕ → List ℕ → List ℕ → Type 0
-StoredSlot = Stored 64 127
-
-abbrev pub StoredEntry : ℕ → List ℕ → List ℕ → Type 0
-StoredEntry = Stored 80 101
-
--- another row is as it was
-module _ {r : ℕ} {d y : List ℕ} (w : StoredSlot r d y) (t : ℕ) (ne : t ≡ r → ⊥) where
-  pub slotAt-stored-other : slotAt t y ≡ slotAt t d
-  slotAt-stored-other = slotAt-same d y t (record-other slots-lie w t ne)
-
-  pub bodyAt-stored-other : bodyAt t y ≡ bodyAt t d
-  bodyAt-stored-other = bodyAt-same d y t (record-other slots-lie w t ne)
-
--- another entry is as it was
-module _ {e : ℕ} {u y : List ℕ} (w : StoredEntry e u y) (t : ℕ) (ne : t ≡ e → ⊥) where
-  pub entryAt-stored-other : entryAt t y ≡ entryAt t u
-  entryAt-stored-other = entryAt-same u y t (record-other entries-lie w t ne)
-
-  pub copyBodyAt-stored-other : copyBodyAt t y ≡ copyBodyAt t u
-  copyBodyAt-stored-other = copyBodyAt-same u y t (record-other entries-lie w t ne)
-
--- ---- the six are such stores, and what was stored is read: "Create 0 means empty", "0 means free"
+-- ---- the six are stores inside a record whose page is then touched or counted anew, and what was stored is read: "Create 0 means
+-- empty", "0 means free"
 
 module _ (r : ℕ) (d : List ℕ) where
   pub withoutSlot-is : (txn : ℕ) → StoredSlot r d (withoutSlot txn r d)
   unfolding withoutSlot
-  withoutSlot-is = stored-touched slots-lie (clearSlot r d) (clearSlot-within r d) dataKind (r / 127)
+  withoutSlot-is = stored-touched slots-lie (clearSlot-within r d) dataKind
 
   pub sweptSlot-is : StoredSlot r d (sweptSlot r d)
   unfolding sweptSlot
-  sweptSlot-is = stored-counted slots-lie (clearSlot r d) (clearSlot-within r d) dataKind (r / 127)
+  sweptSlot-is = stored-counted slots-lie (clearSlot-within r d) dataKind
 
   module _ (row : r < rows d) where
     create-cleared : slotAt r (clearSlot r d) .create ≡ 0
@@ -103,11 +54,11 @@ module _ (r : ℕ) (d : List ℕ) where
 module _ (e : ℕ) (u : List ℕ) where
   pub withoutEntry-is : (txn : ℕ) → StoredEntry e u (withoutEntry txn e u)
   unfolding withoutEntry
-  withoutEntry-is = stored-touched entries-lie (clearEntry e u) (clearEntry-within e u) undoKind (e / 101)
+  withoutEntry-is = stored-touched entries-lie (clearEntry-within e u) undoKind
 
   pub sweptEntry-is : StoredEntry e u (sweptEntry e u)
   unfolding sweptEntry
-  sweptEntry-is = stored-counted entries-lie (clearEntry e u) (clearEntry-within e u) undoKind (e / 101)
+  sweptEntry-is = stored-counted entries-lie (clearEntry-within e u) undoKind
 
   module _ (here : e < entries u) where
     writer-cleared : entryAt e (clearEntry e u) .writer ≡ 0
@@ -124,7 +75,7 @@ module _ (e : ℕ) (u : List ℕ) where
 module _ (r : ℕ) (m : Slot) (d : List ℕ) where
   pub cutSlot-is : StoredSlot r d (cutSlot r m d)
   unfolding cutSlot
-  cutSlot-is = stored-counted slots-lie (putMeta r m d) (putMeta-within r m d) dataKind (r / 127)
+  cutSlot-is = stored-counted slots-lie (putMeta-within r m d) dataKind
 
   module _ (row : r < rows d) where
     pub slotAt-cutSlot : SlotFit m → slotAt r (cutSlot r m d) ≡ m
@@ -139,7 +90,7 @@ module _ (r : ℕ) (m : Slot) (d : List ℕ) where
 module _ (e : ℕ) (m : Slot) (u : List ℕ) where
   pub cutCopy-is : StoredEntry e u (cutCopy e m u)
   unfolding cutCopy
-  cutCopy-is = stored-counted entries-lie (putCopy e m u) (putCopy-within e m u) undoKind (e / 101)
+  cutCopy-is = stored-counted entries-lie (putCopy-within e m u) undoKind
 
   module _ (here : e < entries u) where
     pub entryAt-cutCopy : SlotFit m → entryAt e (cutCopy e m u) ≡ record { writer = entryAt e u .writer; row = entryAt e u .row; copy = m }

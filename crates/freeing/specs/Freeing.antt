@@ -2,7 +2,7 @@
 -- no other; withdraw's also its txn_id. Assumes nothing.
 use Prim.Native.Nat.{ℕ, _/_}
 use mathlib.Core.List.{List}
-use Rattle.kind.specs.Kind.{dataKind, undoKind, slots, entriesToPage}
+use Rattle.kind.specs.Kind.{dataKind, undoKind}
 use Rattle.records.specs.declared.slot.Slot.{Slot}
 use Rattle.records.specs.Slot.{putMeta, clearSlot}
 use Rattle.records.specs.Entry.{putCopy, clearEntry}
@@ -10,21 +10,21 @@ use Rattle.page.specs.Count.{counted, touched}
 
 -- "A page in which .. withdraw writes or frees a slot or entry is touched": row r emptied, entry e freed, by session txn
 unfoldable pub withoutSlot : ℕ → ℕ → List ℕ → List ℕ
-withoutSlot txn r d = touched dataKind (r / slots) txn (clearSlot r d)
+withoutSlot txn r d = touched dataKind (r / dataKind .count) txn (clearSlot r d)
 
 unfoldable pub withoutEntry : ℕ → ℕ → List ℕ → List ℕ
-withoutEntry txn e u = touched undoKind (e / entriesToPage) txn (clearEntry e u)
+withoutEntry txn e u = touched undoKind (e / undoKind .count) txn (clearEntry e u)
 
 -- "sweeping touches pages alike but leaves txn_id": row r emptied, entry e freed
 unfoldable pub sweptSlot : ℕ → List ℕ → List ℕ
-sweptSlot r d = counted dataKind (r / slots) (clearSlot r d)
+sweptSlot r d = counted dataKind (r / dataKind .count) (clearSlot r d)
 
 unfoldable pub sweptEntry : ℕ → List ℕ → List ℕ
-sweptEntry e u = counted undoKind (e / entriesToPage) (clearEntry e u)
+sweptEntry e u = counted undoKind (e / undoKind .count) (clearEntry e u)
 
 -- and the metadata of row r, of the copy in entry e written
 unfoldable pub cutSlot : ℕ → Slot → List ℕ → List ℕ
-cutSlot r m d = counted dataKind (r / slots) (putMeta r m d)
+cutSlot r m d = counted dataKind (r / dataKind .count) (putMeta r m d)
 
 unfoldable pub cutCopy : ℕ → Slot → List ℕ → List ℕ
-cutCopy e m u = counted undoKind (e / entriesToPage) (putCopy e m u)
+cutCopy e m u = counted undoKind (e / undoKind .count) (putCopy e m u)

@@ -70,7 +70,7 @@ pub fn tally(s: &mut [u8], due: &[u8], k: Kind)
     requires { ⌜ (pages (now s) ≤ length (now due)) × Roomy k ⌝ }
     ensures { λ _. ⌜ now (s .exit) ≡ tallied k (now (due .entry)) (now (s .entry)) ⌝ }
 {
-    let pages = s.len() / Kind::PAGE;
+    let pages = kind::pages(s);
     let mut p = 0;
     while p < pages {
         if due[p] != 0 {

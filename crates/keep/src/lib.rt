@@ -39,7 +39,7 @@ fn format_area(s: &mut [u8], k: Kind)
     requires { ⌜ (length (now s) ≡ pages (now s) * pageSize) × (pages (now s) ≤ 65536) ⌝ }
     ensures { λ _. ⌜ now (s .exit) ≡ freshArea k (pages (now (s .entry))) ⌝ }
 {
-    let n = s.len() / Kind::PAGE;
+    let n = kind::pages(s);
     let mut p = 0;
     while p < n {
         whole::fresh_page(s, p, k);
@@ -67,7 +67,7 @@ pub fn format(data: &mut [u8], undo: &mut [u8], status: &mut [u8]) -> Opened
 fn seal_area(s: &mut [u8])
     ensures { λ _. ⌜ now (s .exit) ≡ sealedArea (pages (now (s .entry))) (now (s .entry)) ⌝ }
 {
-    let n = s.len() / Kind::PAGE;
+    let n = kind::pages(s);
     let mut p = 0;
     while p < n {
         whole::seal_page(s, p);
@@ -99,7 +99,7 @@ fn area_right(s: &[u8], k: Kind) -> bool
     requires { ⌜ (pages (now s) ≤ 65536) × Roomy k ⌝ }
     ensures { λ r. ⌜ r ≡ areaRight k (now (s .entry)) ⌝ }
 {
-    let n = s.len() / Kind::PAGE;
+    let n = kind::pages(s);
     let mut p = 0;
     while p < n {
         let at = p * Kind::PAGE;

@@ -4,7 +4,7 @@ use Prim.Native.Nat.{_+_, _*_, _≤_, _<_}
 use mathlib.Core.Path.{_≡_, refl}
 use native.Mathlib.Omega.{arith}
 use Rattle.kind.specs.declared.Kind.{Kind}
-use Rattle.kind.specs.Kind.{pageSize, headerSize, dataKind, undoKind, statusKind, slots, entriesToPage}
+use Rattle.kind.specs.Kind.{pageSize, headerSize, dataKind, undoKind, statusKind}
 
 -- as many records as fit
 pub record Fills (k : Kind) : Type 0 where
@@ -21,7 +21,3 @@ fills-undo = record { reach = refl; inside = omega arith; noMore = omega arith }
 -- a status page has no records, and no free space
 pub fills-status : (statusKind .count ≡ 0) × (statusKind .free ≡ pageSize)
 fills-status = (refl, refl)
-
--- the records to a page, by their names
-pub counts-named : (dataKind .count ≡ slots) × (undoKind .count ≡ entriesToPage)
-counts-named = (refl, refl)

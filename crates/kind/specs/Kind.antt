@@ -27,22 +27,15 @@ undoKind = record { code = 0x51; engine = 0; free = 8128; size = 80; count = 101
 abbrev pub statusKind : Kind
 statusKind = record { code = 0x00; engine = 0; free = 8192; size = 0; count = 0; most = 1 }
 
--- the slots of a data page, and the entries of an undo page
-abbrev pub slots : ℕ
-slots = 127
-
-abbrev pub entriesToPage : ℕ
-entriesToPage = 101
-
 -- how many pages, rows and entries an area has
 abbrev pub pages : List ℕ → ℕ
 pages s = length s / pageSize
 
 abbrev pub rows : List ℕ → ℕ
-rows d = pages d * slots
+rows d = pages d * dataKind .count
 
 abbrev pub entries : List ℕ → ℕ
-entries u = pages u * entriesToPage
+entries u = pages u * undoKind .count
 
 -- a length of 1 to `most` whole pages
 unfoldable pub lengthOk : ℕ → ℕ → Bool

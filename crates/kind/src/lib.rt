@@ -1,6 +1,6 @@
 // The kinds of page ("01, The page", the table), and the lengths that areas may have.
 ghost use mathlib.Core.Path.{_≡_};
-ghost use Rattle.kind.specs.Kind.{lengthsOk, lengthOk};
+ghost use Rattle.kind.specs.Kind.{pages, rows, entries, lengthsOk, lengthOk};
 
 pub struct Kind {
     // page_type, engine_tag and free_space_offset of such a page
@@ -47,6 +47,25 @@ impl Kind {
     pub const HEADER: usize = 48;
 
     pub const VERSION: u8 = 1;
+}
+
+// How many pages an area has, how many rows a data area, and how many entries an undo area.
+pub fn pages(s: &[u8]) -> usize
+    ensures { λ n. ⌜ n ≡ pages (now (s .entry)) ⌝ }
+{
+    s.len() / Kind::PAGE
+}
+
+pub fn rows(data: &[u8]) -> usize
+    ensures { λ n. ⌜ n ≡ rows (now («data» .entry)) ⌝ }
+{
+    pages(data) * Kind::DATA.count
+}
+
+pub fn entries(undo: &[u8]) -> usize
+    ensures { λ n. ⌜ n ≡ entries (now (undo .entry)) ⌝ }
+{
+    pages(undo) * Kind::UNDO.count
 }
 
 fn length_ok(n: usize, most: usize) -> bool

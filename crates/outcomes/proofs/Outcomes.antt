@@ -20,8 +20,9 @@ use Rattle.strands.proofs.Rows.{rows-others, rows-own}
 use Rattle.putback.specs.PutBack.{own, ownMade, undoneRow}
 use Rattle.undoing.specs.Undoing.{undoneFrom, undone}
 use Rattle.trimming.specs.Trimming.{sweptRow}
-use Rattle.trimming.proofs.Trims.{sweptRow-treated, chainOf-sweptRow-own}
+use Rattle.trimming.proofs.Trims.{chainOf-sweptRow-own}
 use Rattle.sweeping.specs.Sweeping.{sweptFrom}
+use Rattle.sweeping.proofs.Treats.{swept-turns}
 use Rattle.outcomes.specs.Outcomes.{undoneVersions, undoneChain, sweptChain}
 use Rattle.outcomes.proofs.Undones.{ownEnded, undoneRow-treated, undoneRow-none, chainOf-undoneRow-ended, chainOf-undoneRow-made}
 
@@ -102,22 +103,13 @@ module _ (n k : ℕ) (number : 0 < n) where
 -- ---- sweep
 
 module _ (m : ℕ) (s : List ℕ) where
-  pub swept-turns : Turns (sweptRow m s) (sweptFrom m s)
-  unfolding sweptFrom
-  swept-turns =
-      record {
-        none = λ r p. refl;
-        next = λ r n p. refl;
-        treats = λ r p h. sweptRow-treated m s r (p .«data») (p .undo) h;
-      }
-
   module _ (first n : ℕ) (p : Both) (h : RowsIn (first + n) p) where
     -- a treated row keeps its front before the first dead version
     pub sweep-chain : (t : ℕ) → first ≤ t → t < first + n → chainOf (p .«data») (p .undo) t .whole ≡ true
         → chainOf (sweptFrom m s first n p .«data») (sweptFrom m s first n p .undo) t ≡ sweptChain m s (chainOf (p .«data») (p .undo) t)
     unfolding sweptChain
     sweep-chain t low high whole =
-        rows-own (sweptRow m s) (sweptFrom m s) swept-turns t (λ (c : Chain). c .whole ≡ true) (sweptChain m s) one n first p h low high whole
+        rows-own (sweptRow m s) (sweptFrom m s) (swept-turns m s) t (λ (c : Chain). c .whole ≡ true) (sweptChain m s) one n first p h low high whole
       where
         one : (q : Both) → RowIn t (q .«data») (q .undo) → chainOf (q .«data») (q .undo) t .whole ≡ true
             → chainOf (sweptRow m s t q .«data») (sweptRow m s t q .undo) t ≡ sweptChain m s (chainOf (q .«data») (q .undo) t)
@@ -128,4 +120,4 @@ module _ (m : ℕ) (s : List ℕ) where
     -- every other row is as it was
     pub sweep-others : (t : ℕ) → (t < first) ⊎ (first + n ≤ t)
         → chainOf (sweptFrom m s first n p .«data») (sweptFrom m s first n p .undo) t ≡ chainOf (p .«data») (p .undo) t
-    sweep-others t out = rows-others (sweptRow m s) (sweptFrom m s) swept-turns n first p h t out
+    sweep-others t out = rows-others (sweptRow m s) (sweptFrom m s) (swept-turns m s) n first p h t out .chains

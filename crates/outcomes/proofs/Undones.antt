@@ -26,10 +26,11 @@ use Rattle.chain.specs.Chain.{Version, Chain, ended, onto, among, chainFrom, ch
 use Rattle.chain.proofs.Links.{link-real}
 use Rattle.chain.proofs.Chains.{chainFrom-end, chainFrom-break, chainFrom-full}
 use Rattle.chain.proofs.Rows.{chainOf-empty, chainOf-used}
+use Rattle.page.proofs.Stored.{StoredSlot, slotAt-stored-other, bodyAt-stored-other}
 use Rattle.touching.specs.Touching.{withSlot, withMeta}
-use Rattle.touching.proofs.Touchings.{WrittenSlot, slotAt-written-other, bodyAt-written-other, withSlot-written, slotAt-withSlot, bodyAt-withSlot, withMeta-written, slotAt-withMeta, bodyAt-withMeta}
+use Rattle.touching.proofs.Touchings.{withSlot-is, slotAt-withSlot, bodyAt-withSlot, withMeta-is, slotAt-withMeta, bodyAt-withMeta}
 use Rattle.freeing.specs.Freeing.{withoutSlot, withoutEntry}
-use Rattle.freeing.proofs.Freeings.{slotAt-stored-other, bodyAt-stored-other, withoutSlot-is, create-withoutSlot, bytes-withoutEntry}
+use Rattle.freeing.proofs.Freeings.{withoutSlot-is, create-withoutSlot, bytes-withoutEntry}
 use Rattle.strands.specs.Strands.{Frees, Keeps, Shaped, Treated, RowIn, entryIn, Strand, rest, onFirst}
 use Rattle.strands.proofs.Strands.{withoutEntry-frees, freed-step}
 use Rattle.strands.proofs.Apart.{ofRow-refl, copies-refl, chainOf-treated}
@@ -84,8 +85,8 @@ module _ (n k r : ℕ) (d : List ℕ) where
       f : Frees (entryIn x) u (withoutEntry n (entryIn x) u)
       f = withoutEntry-frees n (entryIn x) u (step-inside (s .0))
 
-      written : WrittenSlot r d (withSlot n r (unexpired (x .slot)) (copyBodyAt (entryIn x) u) d)
-      written = withSlot-written n r (unexpired (x .slot)) (copyBodyAt (entryIn x) u) d (length-copyBodyAt (entryIn x) u (step-inside (s .0)))
+      written : StoredSlot r d (withSlot n r (unexpired (x .slot)) (copyBodyAt (entryIn x) u) d)
+      written = withSlot-is n r (unexpired (x .slot)) (copyBodyAt (entryIn x) u) d (length-copyBodyAt (entryIn x) u (step-inside (s .0)))
 
       by : (t : Bool) → Kept (entryIn x ∷ ps) (withoutEntry n (entryIn x) u) (takenBack n k r xs (both d (withoutEntry n (entryIn x) u)))
           → Kept ps u (cond t (takenBack n k r xs (both d (withoutEntry n (entryIn x) u))) (back x u (entryIn x)))
@@ -93,7 +94,7 @@ module _ (n k r : ℕ) (d : List ℕ) where
           (keeps-freed (withoutEntry n (entryIn x) u) (takenBack n k r xs (both d (withoutEntry n (entryIn x) u)) .undo) (s .0) f (ih .0), ih .1)
       by false ih = (
         keeps-freed (withoutEntry n (entryIn x) u) (withoutEntry n (entryIn x) u) (s .0) f (keeps-refl r (entryIn x ∷ ps) (withoutEntry n (entryIn x) u)),
-        record { slots = slotAt-written-other written; bodies = bodyAt-written-other written },
+        record { slots = slotAt-stored-other written; bodies = bodyAt-stored-other written },
       )
 
   taken-shaped : (xs : List Version) (u : List ℕ) → Bytes u
@@ -288,8 +289,8 @@ module _ (n k r : ℕ) (d u : List ℕ) (h : RowIn r d u) where
           record {
             ofRow = ofRow-refl r u;
             copies = copies-refl u;
-            slots = slotAt-written-other (withMeta-written n r (unexpired (slotAt r d)) d);
-            bodies = bodyAt-written-other (withMeta-written n r (unexpired (slotAt r d)) d);
+            slots = slotAt-stored-other (withMeta-is n r (unexpired (slotAt r d)) d);
+            bodies = bodyAt-stored-other (withMeta-is n r (unexpired (slotAt r d)) d);
             «data» = shaped-withMeta r d n (unexpired (slotAt r d));
             undo = shaped-refl u;
           }

@@ -2,11 +2,12 @@
 use Prim.Native.Nat.{ℕ}
 use mathlib.Core.Bool.{cond}
 use mathlib.Core.List.{List, [], _∷_}
+use Rattle.records.specs.Slot.{unlinked}
 use Rattle.chain.specs.declared.Place.the-variants.{Data}
 use Rattle.chain.specs.Chain.{Version, Chain}
 use Rattle.strands.specs.Strands.{front, rest, onLast, onFirst}
 use Rattle.putback.specs.PutBack.{own, ownMade, unexpired}
-use Rattle.trimming.specs.Trimming.{deadIn, unlinked}
+use Rattle.trimming.specs.Trimming.{deadIn}
 
 -- withdraw drops the versions in front that S made in statement k or later, and the one that then stands in the slot is ended by nobody;
 -- where S made none of them but ended the first, that is undone

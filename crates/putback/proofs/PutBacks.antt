@@ -76,6 +76,11 @@ module _ (n k r : ℕ) (d u : List ℕ) where
     unfolding takenBack
     taken-other h = rw h
 
+-- as the loop begins
+pub take-start : {left : ℕ} (n k r : ℕ) (d u : List ℕ) (ptr : ℕ) → left ≡ entries u
+    → takenBack n k r (chainFrom u r left [] ptr .versions) (both d u) ≡ takenBack n k r (chainFrom u r (entries u) [] ptr .versions) (both d u)
+take-start n k r d u ptr all = ap (λ (fuel : ℕ). takenBack n k r (chainFrom u r fuel [] ptr .versions) (both d u)) all
+
 -- the loop, where d and u are the areas now, m the entry to which the pointer leads, b what is_own answered of its copy
 module _ {y : List ℕ} (n k r : ℕ) (d u : List ℕ) (left ptr : ℕ) where
   module _ {b : Bool} (e : ℕ) (m : Entry) (to : linkOf u r ptr ≡ To e m) (more : 0 < left) (asked : b ≡ ownMade n k (m .copy)) (freed : y ≡ withoutEntry n e u) where

@@ -1,7 +1,6 @@
 // What withdrawing does to one row ("01, Writes, withdrawal, sweep"). It is written over "S in statement k or later", so that a
 // session can be withdrawn from any of its statements on.
 use chain::Link;
-use kind::Kind;
 use records::slot::Slot;
 ghost use mathlib.Core.Path.{_≡_};
 ghost use mathlib.Core.List.{[]};
@@ -51,7 +50,7 @@ fn take_back(data: &mut [u8], undo: &mut [u8], r: usize, first: u64, number: u64
     requires { ⌜ r < rows (now «data») ⌝ }
     ensures { λ _. ⌜ both (now («data» .exit)) (now (undo .exit)) ≡ takenBack number k r (chainFrom (now (undo .entry)) r (entries (now (undo .entry))) [] first .versions) (both (now («data» .entry)) (now (undo .entry))) ⌝ }
 {
-    let mut left = undo.len() / Kind::PAGE * Kind::UNDO.count;
+    let mut left = kind::entries(undo);
     let mut ptr = first;
     while left > 0 {
         let l = chain::follow(undo, r, ptr);

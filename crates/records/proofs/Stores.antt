@@ -13,7 +13,7 @@ use Rattle.kind.specs.Kind.{rows, entries}
 use Rattle.kind.specs.Place.{recordAt}
 use Rattle.kind.proofs.Places.{length-recordAt, recordAt-sets, recordAt-front, recordAt-store}
 use Rattle.records.specs.declared.slot.Slot.{Slot}
-use Rattle.records.specs.Slot.{slotOf, slotFields, slotPlace, slotBytes, slotAt, bodyAt, putMeta, clearSlot}
+use Rattle.records.specs.Slot.{slotOf, slotFields, slotPlace, slotBytes, slotAt, bodyAt, putMeta, clearSlot, unlinked}
 use Rattle.records.specs.Entry.{entryOf, entryPlace, entryBytes, entryAt, putCopy, clearEntry}
 use Rattle.records.proofs.Slots.{slots-lie, slot-inside, length-slotFields, slotOf-read, slotFields-stores}
 use Rattle.records.proofs.Entries.{entries-lie, entry-inside}
@@ -75,23 +75,20 @@ cut-stored at m s b h create expire none cmd ended =
     own : Bytes (sets s (at + 16) (replicate 8 0))
     own = bytes-sets (replicate 8 0) s (at + 16) (bytes-zeros 8) b
 
--- metadata but for the pointer
-abbrev pub cutOff : Slot → Slot
-cutOff m = record { create = m .create; expire = m .expire; «undo_ptr» = 0; cmd = m .cmd; «expire_cmd» = m .«expire_cmd» }
-
+-- an older version's pointer cut off
 pub slotBytes-cut : (r : ℕ) (s : List ℕ) → Bytes s → r < rows s
-    → slotBytes r (putMeta r (cutOff (slotAt r s)) s) ≡ sets (slotBytes r s) 16 (replicate 8 0)
+    → slotBytes r (putMeta r (unlinked (slotAt r s)) s) ≡ sets (slotBytes r s) 16 (replicate 8 0)
 unfolding putMeta slotAt slotOf recordAt
 slotBytes-cut r s b row =
-    let m : Slot = cutOff (slotAt r s) in
+    let m : Slot = unlinked (slotAt r s) in
     recordAt-front slots-lie r s (bytesOf (slotFields m)) (omega (arith, length-slotFields m))
     ∙ cut-stored 0 m (slotBytes r s) (bytes-part (slotPlace r) 64 s b) (omega (arith, length-recordAt slots-lie r s (slot-inside r s row))) refl refl refl refl refl
 
 pub entryBytes-cut : (e : ℕ) (u : List ℕ) → Bytes u → e < entries u
-    → entryBytes e (putCopy e (cutOff (entryAt e u .copy)) u) ≡ sets (entryBytes e u) 32 (replicate 8 0)
+    → entryBytes e (putCopy e (unlinked (entryAt e u .copy)) u) ≡ sets (entryBytes e u) 32 (replicate 8 0)
 unfolding putCopy entryAt entryOf recordAt
 entryBytes-cut e u b here =
-    let m : Slot = cutOff (slotOf (part 16 64 (entryBytes e u))) in
+    let m : Slot = unlinked (slotOf (part 16 64 (entryBytes e u))) in
     let is = slotOf-read 16 (entryBytes e u) refl refl refl refl refl in
     recordAt-store entries-lie e 16 u (bytesOf (slotFields m)) (omega (arith, length-slotFields m))
     ∙ cut-stored 16 m (entryBytes e u) (bytes-part (entryPlace e) 80 u b) (omega (arith, length-recordAt entries-lie e u (entry-inside e u here)))

@@ -23,6 +23,10 @@ slotOf b =
 abbrev pub slotFields : Slot → List (ℕ × ℕ)
 slotFields m = (8, m .create) ∷ (8, m .expire) ∷ (8, m .«undo_ptr») ∷ (4, m .cmd) ∷ (4, m .«expire_cmd») ∷ []
 
+-- metadata behind which no older version is left: "the newer version's pointer becomes 0"
+abbrev pub unlinked : Slot → Slot
+unlinked m = record { create = m .create; expire = m .expire; «undo_ptr» = 0; cmd = m .cmd; «expire_cmd» = m .«expire_cmd» }
+
 -- where the slot of row r begins, and its bytes
 abbrev pub slotPlace : ℕ → ℕ
 slotPlace r = placeOf pageSize (dataKind .size) (dataKind .count) r

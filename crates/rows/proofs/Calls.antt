@@ -73,9 +73,10 @@ module _ (d u s : List ℕ) (desk : Desk) (x k : ℕ) (a : Admits d u s desk x k
 -- ---- insert
 
 -- the row found lies in the area
-pub insert-inside : {r : ℕ} (d : List ℕ) → r ≡ lowestEmpty d → (r ≡ rows d → ⊥) → r < rows d
-insert-inside d is h =
-    let found : lowestEmpty d < rows d = lowestEmpty-lt d (λ (e : lowestEmpty d ≡ rows d). h (is ∙ e)) in
+-- m is how many rows there are
+pub insert-inside : {r m : ℕ} (d : List ℕ) → r ≡ lowestEmpty d → m ≡ rows d → (r ≡ m → ⊥) → r < rows d
+insert-inside d is all h =
+    let found : lowestEmpty d < rows d = lowestEmpty-lt d (λ (e : lowestEmpty d ≡ rows d). h (is ∙ e ∙ sym all)) in
     omega arith
 
 module _ (d u s : List ℕ) (desk : Desk) (x : ℕ) (body : List ℕ) where
@@ -101,14 +102,14 @@ module _ (d u s : List ℕ) (desk : Desk) (x : ℕ) (body : List ℕ) where
     insert-5 h = insert-on ∙ rw (ne-eqb (length body) 32 h)
 
     module _ (long : length body ≡ 32) where
-      pub insert-11 : {r : ℕ} → r ≡ lowestEmpty d → r ≡ rows d → insertRule (areas d u s) desk x body ≡ insertNo 11
-      insert-11 is h = insert-on ∙ rw (eq-eqb (length body) 32 long, eq-eqb (lowestEmpty d) (rows d) (sym is ∙ h))
+      pub insert-11 : {r m : ℕ} → r ≡ lowestEmpty d → m ≡ rows d → r ≡ m → insertRule (areas d u s) desk x body ≡ insertNo 11
+      insert-11 is all h = insert-on ∙ rw (eq-eqb (length body) 32 long, eq-eqb (lowestEmpty d) (rows d) (sym is ∙ h ∙ all))
 
-      pub insert-0 : {r t : ℕ} {y : List ℕ} → r ≡ lowestEmpty d → (r ≡ rows d → ⊥) → t ≡ getD (desk .statements) k 0 → y ≡ inserted x t r body d
+      pub insert-0 : {r m t : ℕ} {y : List ℕ} → r ≡ lowestEmpty d → m ≡ rows d → (r ≡ m → ⊥) → t ≡ getD (desk .statements) k 0 → y ≡ inserted x t r body d
           → insertRule (areas d u s) desk x body ≡ ((0, r), y)
-      insert-0 {r} {t} {y} is h at put =
+      insert-0 {r} {m} {t} {y} is all h at put =
           insert-on
-          ∙ rw (eq-eqb (length body) 32 long, ne-eqb (lowestEmpty d) (rows d) (λ (e : lowestEmpty d ≡ rows d). h (is ∙ e)))
+          ∙ rw (eq-eqb (length body) 32 long, ne-eqb (lowestEmpty d) (rows d) (λ (e : lowestEmpty d ≡ rows d). h (is ∙ e ∙ sym all)))
           (ap insertDone (statement-in d u s desk x k a at)
           ∙ ap (λ (i : ℕ). ((0, i), inserted x t i body d)) (sym is)
           ∙ ap (λ (l : List ℕ). ((0, r), l)) (sym put))
@@ -167,9 +168,10 @@ pub small-number : {r n count : ℕ} → n ≤ 64 → count ≤ 127 → r < n * 
 small-number {r} {n} {count} few most h = let m : n * count ≤ 64 * 127 = mul-le-mul few most in omega arith
 
 -- the entry found lies in the area
-pub update-inside : {e : ℕ} (u : List ℕ) → e ≡ lowestFree u → (e ≡ entries u → ⊥) → e < entries u
-update-inside u is h =
-    let found : lowestFree u < entries u = lowestFree-lt u (λ (q : lowestFree u ≡ entries u). h (is ∙ q)) in
+-- m is how many entries there are
+pub update-inside : {e m : ℕ} (u : List ℕ) → e ≡ lowestFree u → m ≡ entries u → (e ≡ m → ⊥) → e < entries u
+update-inside u is all h =
+    let found : lowestFree u < entries u = lowestFree-lt u (λ (q : lowestFree u ≡ entries u). h (is ∙ q ∙ sym all)) in
     omega arith
 
 module _ (d u s : List ℕ) (desk : Desk) (x r : ℕ) (body : List ℕ) where
@@ -225,13 +227,13 @@ module _ (d u s : List ℕ) (desk : Desk) (x r : ℕ) (body : List ℕ) where
             update-asked
             ∙ write-on d u s (viewIn desk x) r room (updateDone (viewIn desk x .statement) (lowestFree u)) updateNo (asked-in d u s desk x k a at lent r asked ∙ h)
 
-        pub update-11 : e ≡ entries u → updateRule (areas d u s) desk x r body ≡ updateNo 11
-        update-11 full = update-room ∙ rw (eq-eqb (lowestFree u) (entries u) (sym is ∙ full))
+        pub update-11 : {m : ℕ} → m ≡ entries u → e ≡ m → updateRule (areas d u s) desk x r body ≡ updateNo 11
+        update-11 all full = update-room ∙ rw (eq-eqb (lowestFree u) (entries u) (sym is ∙ full ∙ all))
 
-        pub update-0 : (e ≡ entries u → ⊥) → updateRule (areas d u s) desk x r body ≡ updateDone t e
-        update-0 some =
+        pub update-0 : {m : ℕ} → m ≡ entries u → (e ≡ m → ⊥) → updateRule (areas d u s) desk x r body ≡ updateDone t e
+        update-0 all some =
             update-room
-            ∙ rw (ne-eqb (lowestFree u) (entries u) (λ (q : lowestFree u ≡ entries u). some (is ∙ q)))
+            ∙ rw (ne-eqb (lowestFree u) (entries u) (λ (q : lowestFree u ≡ entries u). some (is ∙ q ∙ sym all)))
             (ap (λ (i : ℕ). updateDone (viewIn desk x .statement) i) (sym is) ∙ ap (λ (n : ℕ). updateDone n e) (statement-in d u s desk x k a at))
 
 -- ---- read

@@ -3,7 +3,6 @@
 use admit::Admitted;
 use answer::Answer;
 use chain::Place;
-use kind::Kind;
 use seeking::Sought;
 use words::Words;
 ghost use mathlib.Core.Path.{_≡_};
@@ -49,7 +48,7 @@ pub fn insert(
         return unmade(Answer::BadArgument);
     }
     let row = vacant::lowest_empty(data);
-    if row == data.len() / Kind::PAGE * Kind::DATA.count {
+    if row == kind::rows(data) {
         return unmade(Answer::NoRoom);
     }
     writing::insert_at(data, row, session, words::statement(desk, k), body);
@@ -92,7 +91,7 @@ pub fn update<'a>(
         return refusal;
     }
     let e = vacant::lowest_free(undo);
-    if e == undo.len() / Kind::PAGE * Kind::UNDO.count {
+    if e == kind::entries(undo) {
         return Answer::NoRoom;
     }
     writing::update_at(data, undo, row, e, session, statement, body);

@@ -12,12 +12,14 @@ use Rattle.kind.proofs.Lengths.{all-lent}
 use Rattle.desk.specs.Desk.{firstStatement}
 use Rattle.desk.specs.Turns.{mark}
 use Rattle.records.specs.declared.slot.Slot.{Slot}
+use Rattle.records.specs.Slot.{unlinked}
 use Rattle.records.proofs.Slots.{slots-lie}
 use Rattle.records.proofs.Entries.{entries-lie}
 use Rattle.chain.specs.declared.Place.{Place}
 use Rattle.chain.specs.declared.Place.the-variants.{Nowhere, Data, Undo}
+use Rattle.page.proofs.Stored.{length-stored}
 use Rattle.touching.proofs.Touchings.{length-withSlot, length-withMeta}
-use Rattle.freeing.proofs.Freeings.{length-stored, withoutSlot-is, withoutEntry-is, sweptSlot-is, sweptEntry-is, cutSlot-is, cutCopy-is}
+use Rattle.freeing.proofs.Freeings.{withoutSlot-is, withoutEntry-is, sweptSlot-is, sweptEntry-is, cutSlot-is, cutCopy-is}
 use Rattle.putback.specs.PutBack.{freedAt, copyBody}
 use Rattle.vacant.specs.Vacant.{lowestEmpty, lowestFree}
 use Rattle.keep.specs.Keep.{formatted, sealed}
@@ -25,7 +27,7 @@ use Rattle.keep.proofs.Promises.{length-sealedArea, length-refreshed}
 use Rattle.outcomes.proofs.Kept.{Withdraws, Trims, undone-keeps, swept-keeps}
 use Rattle.rows.specs.Rows.{viewIn, updated}
 use Rattle.undoing.specs.Undoing.{undone, withdrawn}
-use Rattle.trimming.specs.Trimming.{sweptAt, unlinked, cutAt}
+use Rattle.trimming.specs.Trimming.{sweptAt, cutAt}
 use Rattle.sweeping.specs.Sweeping.{treated, sweptFrom, swept}
 use Rattle.upheld.proofs.Written.{length-inserted, length-deleted, length-updatedData, length-updatedUndo}
 use Rattle.machine.specs.Lines.{Call, format, opens, seal, begin, next, insert, update, delete, read, commit, withdraw, sweep, isFormat}

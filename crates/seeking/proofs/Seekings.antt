@@ -179,16 +179,16 @@ module _ (d u s : List ℕ) (v : View) (r : ℕ) where
         passed = λ rest. rw (a .0, b .0, c .0, f .0, g .0, h .0);
       }
 
-  -- ---- as the functions find it
+  -- ---- as the functions find it: k is how many rows there are
 
-  pub seek-outside : rows d ≤ r → seekRule d u s v r ≡ Refused BadArgument
+  pub seek-outside : {k : ℕ} → k ≡ rows d → k ≤ r → seekRule d u s v r ≡ Refused BadArgument
   unfolding seekRule noRow
-  seek-outside h = rw (le-leb (rows d) r h)
+  seek-outside all h = rw (le-leb (rows d) r (omega arith))
 
-  module _ (h : r < rows d) where
+  module _ {k : ℕ} (all : k ≡ rows d) (h : r < k) where
     seek-by : seekRule d u s v r ≡ soughtBy (walkRule d u s v r)
     unfolding seekRule noRow
-    seek-by = rw (lt-leb (rows d) r h)
+    seek-by = rw (lt-leb (rows d) r (omega arith))
 
     pub seek-at : (place : Place) (n : ℕ) {w : Walk} → w ≡ walkRule d u s v r → w ≡ At place n → Found place n ≡ seekRule d u s v r
     seek-at place n told e = sym (seek-by ∙ ap soughtBy (sym told ∙ e))

@@ -3,7 +3,6 @@
 use answer::Answer;
 use chain::Place;
 use chain::Walk;
-use kind::Kind;
 ghost use mathlib.Core.Path.{_≡_};
 ghost use lib.ListN.{length};
 ghost use Rattle.answer.specs.Code.{codeOf};
@@ -41,7 +40,7 @@ pub fn seek<'a>(
     requires { ⌜ length (now status) ≡ pageSize ⌝ }
     ensures { λ r. ⌜ r ≡ seekRule (now («data» .entry)) (now (undo .entry)) (now (status .entry)) (viewOf number statement (now (list .entry))) row ⌝ }
 {
-    if row >= data.len() / Kind::PAGE * Kind::DATA.count {
+    if row >= kind::rows(data) {
         return Sought::Refused(Answer::BadArgument);
     }
     let w = chain::search(data, undo, status, number, statement, list, row);

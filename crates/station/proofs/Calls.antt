@@ -76,22 +76,23 @@ three-put (x ∷ out) a b c e = let rest : length out ≡ 2 = omega arith in ap 
 -- ---- where a body lies: `at` is the place of its record, as the code found it
 
 module _ {place : Place} (d u : List ℕ) where
-  pub lies-slot : {at : ℕ} (r : ℕ) → place ≡ Data r → r < rows d → at ≡ slotPlace r → (1, at + 32) ≡ liesOf place d u
+  -- n is how many there are
+  pub lies-slot : {at n : ℕ} (r : ℕ) → place ≡ Data r → n ≡ rows d → r < n → at ≡ slotPlace r → (1, at + 32) ≡ liesOf place d u
   unfolding liesOf
-  lies-slot r is inside found = rw (is, lt-ltb r (rows d) inside) (ap (λ (n : ℕ). (1, n + 32)) found)
+  lies-slot r is all inside found = rw (is, lt-ltb r (rows d) (omega arith)) (ap (λ (n : ℕ). (1, n + 32)) found)
 
-  pub lies-copy : {at : ℕ} (e : ℕ) → place ≡ Undo e → e < entries u → at ≡ entryPlace e → (2, at + 48) ≡ liesOf place d u
+  pub lies-copy : {at n : ℕ} (e : ℕ) → place ≡ Undo e → n ≡ entries u → e < n → at ≡ entryPlace e → (2, at + 48) ≡ liesOf place d u
   unfolding liesOf
-  lies-copy e is inside found = rw (is, lt-ltb e (entries u) inside) (ap (λ (n : ℕ). (2, n + 48)) found)
+  lies-copy e is all inside found = rw (is, lt-ltb e (entries u) (omega arith)) (ap (λ (n : ℕ). (2, n + 48)) found)
 
   pub lies-nowhere : place ≡ Nowhere → (0, 0) ≡ liesOf place d u
   unfolding liesOf
   lies-nowhere is = rw is
 
-  pub lies-no-slot : (r : ℕ) → place ≡ Data r → rows d ≤ r → (0, 0) ≡ liesOf place d u
+  pub lies-no-slot : {n : ℕ} (r : ℕ) → place ≡ Data r → n ≡ rows d → n ≤ r → (0, 0) ≡ liesOf place d u
   unfolding liesOf
-  lies-no-slot r is outside = rw (is, le-ltb r (rows d) outside)
+  lies-no-slot r is all outside = rw (is, le-ltb r (rows d) (omega arith))
 
-  pub lies-no-copy : (e : ℕ) → place ≡ Undo e → entries u ≤ e → (0, 0) ≡ liesOf place d u
+  pub lies-no-copy : {n : ℕ} (e : ℕ) → place ≡ Undo e → n ≡ entries u → n ≤ e → (0, 0) ≡ liesOf place d u
   unfolding liesOf
-  lies-no-copy e is outside = rw (is, le-ltb e (entries u) outside)
+  lies-no-copy e is all outside = rw (is, le-ltb e (entries u) (omega arith))

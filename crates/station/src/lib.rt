@@ -2,7 +2,6 @@
 // the call answers, 0 where it is done. The desk is 273 words of 32 bits, lent; they change only where the call is done. No rule is here.
 use chain::Place;
 use desk::Desk;
-use kind::Kind;
 use words::Words;
 ghost use mathlib.Core.Path.{_≡_};
 ghost use mathlib.Core.List.{[], _∷_};
@@ -60,7 +59,7 @@ fn lies(data: &[u8], undo: &[u8], place: Place) -> Spot
     match place {
         Place::Nowhere => Spot { area: 0, at: 0 },
         Place::Data(r) => {
-            if r < data.len() / Kind::PAGE * Kind::DATA.count {
+            if r < kind::rows(data) {
                 let at = records::slot::place(r) + 32;
                 return Spot {
                     area: 1,
@@ -70,7 +69,7 @@ fn lies(data: &[u8], undo: &[u8], place: Place) -> Spot
             Spot { area: 0, at: 0 }
         }
         Place::Undo(e) => {
-            if e < undo.len() / Kind::PAGE * Kind::UNDO.count {
+            if e < kind::entries(undo) {
                 let at = records::entry::place(e) + 48;
                 return Spot {
                     area: 2,

@@ -21,8 +21,9 @@ use Rattle.chain.specs.declared.Link.the-variants.{Break, To}
 use Rattle.chain.specs.Chain.{unfit, chainOf, linkAt, linkOf}
 use Rattle.chain.proofs.Links.{unfit-free, unfit-other}
 use Rattle.chain.proofs.Rows.{chainOf-agree}
+use Rattle.page.proofs.Stored.{length-stored, entryAt-stored-other, copyBodyAt-stored-other}
 use Rattle.freeing.specs.Freeing.{cutCopy}
-use Rattle.freeing.proofs.Freeings.{length-stored, entryAt-stored-other, copyBodyAt-stored-other, cutCopy-is, entryAt-cutCopy, copyBodyAt-cutCopy}
+use Rattle.freeing.proofs.Freeings.{cutCopy-is, entryAt-cutCopy, copyBodyAt-cutCopy}
 use Rattle.strands.specs.Strands.{Frees, OfRow, Copies, Treated, RowIn}
 
 -- an entry as it was, or row r's and now free or still row r's

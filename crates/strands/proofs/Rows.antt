@@ -1,5 +1,5 @@
 -- Rows treated one after the other, by withdraw and by the sweep ("01, Writes, withdrawal, sweep"): each row among them has the chain
--- that it would have if it alone were treated, and every other row the chain that it had. Assumes nothing.
+-- that it would have if it alone were treated, and every other row keeps slot, body and chain. Assumes nothing.
 use mathlib.Core.Path.{_≡_, refl, sym, ap, subst, _∙_}
 use mathlib.Core.Logic.{_⊎_, inl, inr, ⊎-elim}
 use mathlib.Core.Bool.{Bool, true, false}
@@ -10,7 +10,7 @@ use lib.Dec.{eqb}
 use borrow.Author.Tests.{eqb-true, eqb-false}
 use Rattle.kind.specs.Areas.{Both}
 use Rattle.chain.specs.Chain.{Chain, chainOf}
-use Rattle.strands.specs.Strands.{Copies, Shaped, Treated, RowIn, RowsIn, Turns}
+use Rattle.strands.specs.Strands.{Copies, Shaped, Treated, RowIn, RowsIn, Same, Turns}
 use Rattle.strands.proofs.Apart.{ofRow-refl, copies-refl, copies-trans, chainOf-treated}
 use Rattle.strands.proofs.Shapes.{shaped-refl, shaped-trans}
 
@@ -26,19 +26,26 @@ treated-refl r d u =
       undo = shaped-refl u;
     }
 
+-- a row that is treated leaves every other as it was
+same-treated : {r : ℕ} {p p′ : Both} → Treated r (p .«data») (p .undo) (p′ .«data») (p′ .undo) → (t : ℕ) → (t ≡ r → ⊥) → Same t p p′
+same-treated k t ne = record { chains = chainOf-treated k t ne; slots = k .slots t ne; bodies = k .bodies t ne }
+
+same-trans : {t : ℕ} {p p₁ p₂ : Both} → Same t p p₁ → Same t p₁ p₂ → Same t p p₂
+same-trans a b = record { chains = b .chains ∙ a .chains; slots = b .slots ∙ a .slots; bodies = b .bodies ∙ a .bodies }
+
 abbrev chainIn : Both → ℕ → Chain
 chainIn p t = chainOf (p .«data») (p .undo) t
 
 -- f treats a row, g the n rows from r on
 module _ (f : ℕ → Both → Both) (g : ℕ → ℕ → Both → Both) (turns : Turns f g) where
-  first-in : (n r : ℕ) (p : Both) → RowsIn (r + suc n) p → RowIn r (p .«data») (p .undo)
+  pub first-in : (n r : ℕ) (p : Both) → RowsIn (r + suc n) p → RowIn r (p .«data») (p .undo)
   first-in n r p h = record { row = omega (arith, h .few); «data» = h .«data»; undo = h .undo }
 
-  treats : (n r : ℕ) (p : Both) → RowsIn (r + suc n) p → Treated r (p .«data») (p .undo) (f r p .«data») (f r p .undo)
+  pub treats : (n r : ℕ) (p : Both) → RowsIn (r + suc n) p → Treated r (p .«data») (p .undo) (f r p .«data») (f r p .undo)
   treats n r p h = turns .treats r p (first-in n r p h)
 
   -- the other rows are still to be treated
-  later-in : (n r : ℕ) (p : Both) → RowsIn (r + suc n) p → RowsIn (r + 1 + n) (f r p)
+  pub later-in : (n r : ℕ) (p : Both) → RowsIn (r + suc n) p → RowsIn (r + 1 + n) (f r p)
   later-in n r p h =
       let k : Treated r (p .«data») (p .undo) (f r p .«data») (f r p .undo) = treats n r p h in
       record {
@@ -47,14 +54,15 @@ module _ (f : ℕ → Both → Both) (g : ℕ → ℕ → Both → Both) (turns 
         undo = k .undo .bytes (h .undo);
       }
 
-  -- a row that is not among them has the chain that it had
-  pub rows-others : (n r : ℕ) (p : Both) → RowsIn (r + n) p → (t : ℕ) → (t < r) ⊎ (r + n ≤ t)
-      → chainOf (g r n p .«data») (g r n p .undo) t ≡ chainOf (p .«data») (p .undo) t
-  rows-others zero r p h t out = ap (λ (q : Both). chainIn q t) (turns .none r p)
+  -- a row that is not among them is as it was
+  pub rows-others : (n r : ℕ) (p : Both) → RowsIn (r + n) p → (t : ℕ) → (t < r) ⊎ (r + n ≤ t) → Same t p (g r n p)
+  rows-others zero r p h t out =
+      subst (Same t p) (sym (turns .none r p)) (record { chains = refl; slots = refl; bodies = refl })
   rows-others (suc n) r p h t out =
-      ap (λ (q : Both). chainIn q t) (turns .next r n p)
-      ∙ rows-others n (r + 1) (f r p) (later-in n r p h) t (⊎-elim (λ (l : t < r). inl (omega arith)) (λ (l : r + suc n ≤ t). inr (omega arith)) out)
-      ∙ chainOf-treated (treats n r p h) t (⊎-elim (λ (l : t < r) (e : t ≡ r). omega arith) (λ (l : r + suc n ≤ t) (e : t ≡ r). omega arith) out)
+      subst (Same t p) (sym (turns .next r n p))
+      (same-trans
+      (same-treated (treats n r p h) t (⊎-elim (λ (l : t < r) (e : t ≡ r). omega arith) (λ (l : r + suc n ≤ t) (e : t ≡ r). omega arith) out))
+      (rows-others n (r + 1) (f r p) (later-in n r p h) t (⊎-elim (λ (l : t < r). inl (omega arith)) (λ (l : r + suc n ≤ t). inr (omega arith)) out)))
 
   -- one among them has the chain F that its own treatment gives, of a chain of which P holds
   module _ (t : ℕ) (P : Chain → Type 0) (F : Chain → Chain)
@@ -72,7 +80,7 @@ module _ (f : ℕ → Both → Both) (g : ℕ → ℕ → Both → Both) (turns 
           by true e ih =
               let same : t ≡ r = eqb-true t r e in
               ap (λ (q : Both). chainIn q t) (turns .next r n p)
-              ∙ rows-others n (r + 1) (f r p) (later-in n r p h) t (inl (omega arith))
+              ∙ rows-others n (r + 1) (f r p) (later-in n r p h) t (inl (omega arith)) .chains
               ∙ ap (λ (x : ℕ). chainIn (f x p) t) (sym same)
               ∙ own p (subst (λ (x : ℕ). RowIn x (p .«data») (p .undo)) (sym same) (first-in n r p h)) had
           by false e ih =

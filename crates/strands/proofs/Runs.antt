@@ -14,8 +14,9 @@ use Rattle.records.specs.declared.entry.Entry.{Entry}
 use Rattle.records.specs.Slot.{slotAt}
 use Rattle.records.specs.Entry.{entryAt}
 use Rattle.records.proofs.Slots.{SlotFit}
+use Rattle.page.proofs.Stored.{entryAt-stored-other}
 use Rattle.freeing.specs.Freeing.{cutCopy}
-use Rattle.freeing.proofs.Freeings.{entryAt-stored-other, cutCopy-is}
+use Rattle.freeing.proofs.Freeings.{cutCopy-is}
 use Rattle.chain.specs.declared.Place.{Place}
 use Rattle.chain.specs.declared.Place.the-variants.{Data, Undo}
 use Rattle.chain.specs.declared.Link.{Link}

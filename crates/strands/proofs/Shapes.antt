@@ -6,10 +6,11 @@ use Rattle.little.specs.Little.{Bytes}
 use Rattle.records.specs.declared.slot.Slot.{Slot}
 use Rattle.records.proofs.Slots.{slots-lie}
 use Rattle.records.proofs.Entries.{entries-lie}
+use Rattle.page.proofs.Stored.{length-stored}
 use Rattle.touching.specs.Touching.{withSlot, withMeta}
 use Rattle.touching.proofs.Touchings.{length-withMeta, length-withSlot, bytes-withMeta, bytes-withSlot}
 use Rattle.freeing.specs.Freeing.{withoutSlot, withoutEntry, sweptSlot, sweptEntry, cutSlot, cutCopy}
-use Rattle.freeing.proofs.Freeings.{length-stored, withoutSlot-is, sweptSlot-is, cutSlot-is, withoutEntry-is, sweptEntry-is, cutCopy-is, bytes-withoutSlot, bytes-sweptSlot, bytes-cutSlot, bytes-withoutEntry, bytes-sweptEntry, bytes-cutCopy}
+use Rattle.freeing.proofs.Freeings.{withoutSlot-is, sweptSlot-is, cutSlot-is, withoutEntry-is, sweptEntry-is, cutCopy-is, bytes-withoutSlot, bytes-sweptSlot, bytes-cutSlot, bytes-withoutEntry, bytes-sweptEntry, bytes-cutCopy}
 use Rattle.strands.specs.Strands.{Shaped}
 
 pub shaped-refl : (s : List ℕ) → Shaped s s

@@ -19,8 +19,9 @@ use Rattle.chain.specs.declared.Link.the-variants.{End, Break, To}
 use Rattle.chain.specs.Chain.{Chain, onto, among, unfit, chainFrom, linkAt, linkOf}
 use Rattle.chain.proofs.Links.{unfit-free}
 use Rattle.chain.proofs.Chains.{copyOf, chainFrom-end, chainFrom-break, chainFrom-passed, chainFrom-on, chainFrom-full}
+use Rattle.page.proofs.Stored.{StoredEntry, length-stored, entryAt-stored-other, copyBodyAt-stored-other}
 use Rattle.freeing.specs.Freeing.{withoutEntry, sweptEntry}
-use Rattle.freeing.proofs.Freeings.{StoredEntry, length-stored, entryAt-stored-other, copyBodyAt-stored-other, withoutEntry-is, sweptEntry-is, writer-withoutEntry, writer-sweptEntry}
+use Rattle.freeing.proofs.Freeings.{withoutEntry-is, sweptEntry-is, writer-withoutEntry, writer-sweptEntry}
 use Rattle.strands.specs.Strands.{Frees}
 
 -- ---- the two ways to free an entry

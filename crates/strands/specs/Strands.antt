@@ -15,7 +15,7 @@ use Rattle.records.specs.Entry.{entryAt, copyBodyAt}
 use Rattle.chain.specs.declared.Place.{Place}
 use Rattle.chain.specs.declared.Place.the-variants.{Nowhere, Data, Undo}
 use Rattle.chain.specs.declared.Link.the-variants.{End, To}
-use Rattle.chain.specs.Chain.{Version, among, linkOf}
+use Rattle.chain.specs.Chain.{Version, among, linkOf, chainOf}
 
 -- u′ is u with entry e freed, and every other entry as it was
 pub record Frees (e : ℕ) (u u′ : List ℕ) : Type 0 where
@@ -88,6 +88,12 @@ pub record RowsIn (n : ℕ) (p : Both) : Type 0 where
   pub few : n ≤ rows (p .«data»)
   pub «data» : Bytes (p .«data»)
   pub undo : Bytes (p .undo)
+
+-- row t is in p′ as it was in p
+pub record Same (t : ℕ) (p p′ : Both) : Type 0 where
+  pub chains : chainOf (p′ .«data») (p′ .undo) t ≡ chainOf (p .«data») (p .undo) t
+  pub slots : slotAt t (p′ .«data») ≡ slotAt t (p .«data»)
+  pub bodies : bodyAt t (p′ .«data») ≡ bodyAt t (p .«data»)
 
 -- f treats row r, and g the n rows from r on, one after the other
 pub record Turns (f : ℕ → Both → Both) (g : ℕ → ℕ → Both → Both) : Type 0 where

@@ -3,15 +3,15 @@
 use mathlib.Core.Path.{_≡_, refl, ap, ap₂, _∙_}
 use mathlib.Core.Bool.{true}
 use mathlib.Core.List.{List}
-use Prim.Native.Nat.{ℕ, zero, suc}
+use Prim.Native.Nat.{ℕ, zero, suc, _+_}
 use native.Mathlib.Omega.{arith}
 use lib.ListN.{getD, replicate}
 use Rattle.kind.specs.Kind.{dataKind, undoKind}
 use Rattle.kind.specs.Areas.{both}
+use Rattle.strands.specs.Strands.{RowsIn}
 use Rattle.freeing.specs.Tally.{tallied, talliedBoth}
 use Rattle.freeing.proofs.Tallies.{length-tallied, bytes-tallied, tallied-none}
 use Rattle.sweeping.specs.Sweeping.{allWhole, sweptFrom, removedFrom}
-use Rattle.sweeping.proofs.Treats.{Inside}
 
 -- flags none of which is set
 pub none-due : (n p : ℕ) → _≡_ {A = ℕ} (getD (replicate n 0) p 0) 0
@@ -20,10 +20,10 @@ none-due (suc n) zero = refl
 none-due (suc n) (suc p) = none-due n p
 
 -- the rows of an area tallied are those of the area, and it holds bytes as well
-pub inside-tallied : (first n : ℕ) (dataDue d undoDue u : List ℕ) → Inside first n (both d u) → Inside first n (talliedBoth dataDue d undoDue u)
+pub inside-tallied : (first n : ℕ) (dataDue d undoDue u : List ℕ) → RowsIn (first + n) (both d u) → RowsIn (first + n) (talliedBoth dataDue d undoDue u)
 inside-tallied first n dataDue d undoDue u h =
     record {
-      within = λ t low high. omega (arith, length-tallied dataKind dataDue d, h .within t low high);
+      few = omega (arith, length-tallied dataKind dataDue d, h .few);
       «data» = bytes-tallied dataKind dataDue d (h .«data»);
       undo = bytes-tallied undoKind undoDue u (h .undo);
     }

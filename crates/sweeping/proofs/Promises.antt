@@ -5,7 +5,7 @@ use mathlib.Core.Bool.{Bool, true, false, cond}
 use Prim.Native.Nat.{ℕ, _+_, _-_, _≤_, _<_}
 use native.Mathlib.Omega.{arith}
 use lib.Dec.{ltb}
-use borrow.Author.Tests.{ltb-true, ltb-false}
+use borrow.Author.Tests.{ltb-false}
 use Rattle.ground.specs.Does.{Does}
 use Rattle.ground.proofs.Once.{once}
 use Rattle.ground.proofs.Refusals.{settled}
@@ -15,9 +15,13 @@ use Rattle.desk.specs.declared.Desk.{Desk}
 use Rattle.desk.specs.Turns.{mark}
 use Rattle.kind.specs.Kind.{rows}
 use Rattle.kind.specs.Areas.{Areas, areas, both}
+use Rattle.strands.specs.Strands.{Same}
+use Rattle.strands.proofs.Rows.{rows-others}
+use Rattle.trimming.specs.Trimming.{sweptRow}
 use Rattle.sweeping.specs.declared.Swept.{Swept}
-use Rattle.sweeping.specs.Sweeping.{saidSwept, treated, heldFrom, sweepRefusal, swept, sweepRule}
-use Rattle.sweeping.proofs.Treats.{Same, rows-other}
+use Rattle.sweeping.specs.Sweeping.{saidSwept, treated, sweptFrom, heldFrom, sweepRefusal, swept, sweepRule}
+use Rattle.sweeping.proofs.Treats.{swept-turns}
+use Rattle.sweeping.proofs.Calls.{treats-inside}
 
 module _ (a : Areas) (d : Desk) (first quota : ℕ) where
   -- no second result meets the contract
@@ -57,15 +61,6 @@ module _ (a : Areas) (d : Desk) (first quota : ℕ) where
       (λ e h. absurd (h refl))
       (λ m h. (refl, refl, refl))
 
-  -- a row that is treated is a row of the area
-  treated-inside : (t : ℕ) → first ≤ t → t < first + n → t < rows (a .«data»)
-  unfolding treated
-  treated-inside t low high = by (ltb quota (rows (a .«data») - first)) refl high
-    where
-      by : (b : Bool) → ltb quota (rows (a .«data») - first) ≡ b → t < first + cond b quota (rows (a .«data») - first) → t < rows (a .«data»)
-      by true k h = let less : quota < rows (a .«data») - first = ltb-true quota (rows (a .«data») - first) k in omega arith
-      by false k h = omega arith
-
   -- the rows that are not treated keep slot, body and chain
   pub sweep-leaves : Bytes (a .«data») → Bytes (a .undo) → (t : ℕ) → (t < first) ⊎ (first + n ≤ t)
       → Same t (both (a .«data») (a .undo)) (both (sweepRule a d first quota .1 .«data») (sweepRule a d first quota .1 .undo))
@@ -73,7 +68,11 @@ module _ (a : Areas) (d : Desk) (first quota : ℕ) where
   sweep-leaves own own′ t out =
       settled done no (sweepRefusal a d first quota)
       (λ (y : (ℕ × ℕ × ℕ) × Areas). Same t (both (a .«data») (a .undo)) (both (y .1 .«data») (y .1 .undo)))
-      (λ e. rows-other (mark d) (a .status) first n (both (a .«data») (a .undo)) (record { within = treated-inside; «data» = own; undo = own′ }) t out)
+      (λ e. rows-others (sweptRow (mark d) (a .status)) (sweptFrom (mark d) (a .status)) (swept-turns (mark d) (a .status)) n first
+      (both (a .«data») (a .undo))
+      (record { few = treats-inside a d first quota e; «data» = own; undo = own′ })
+      t
+      out)
       (λ m. record { chains = refl; slots = refl; bodies = refl })
 
   -- "treats min(quota, rows left) of them": no more than asked, and no row outside the area

@@ -1,7 +1,7 @@
 -- Row after row ("01, Writes, withdrawal, sweep"): a row that is treated leaves all others as they are, so the rule from here on is the
 -- rule from the start, and what goes is what the rows held before less what they hold after. Assumes nothing.
 use mathlib.Core.Path.{_≡_, refl, sym, ap, subst, _∙_}
-use mathlib.Core.Logic.{_⊎_, inl, inr, ⊎-elim}
+use mathlib.Core.Logic.{inl}
 use mathlib.Core.Bool.{Bool, true, false}
 use mathlib.Core.List.{List, [], _∷_}
 use Prim.Native.Nat.{ℕ, zero, suc, _+_, _-_, _*_, _/_, _≤_, _<_}
@@ -12,10 +12,10 @@ use Rattle.ground.proofs.Ranges.{all-more, all-at, all-fails}
 use Rattle.little.specs.Little.{Bytes}
 use Rattle.kind.specs.Kind.{rows}
 use Rattle.kind.specs.Areas.{Both, both}
-use Rattle.records.specs.Slot.{slotAt, bodyAt}
 use Rattle.chain.specs.Chain.{Chain, chainOf}
-use Rattle.strands.specs.Strands.{RowIn, Treated}
+use Rattle.strands.specs.Strands.{RowsIn, Turns}
 use Rattle.strands.proofs.Apart.{chainOf-treated}
+use Rattle.strands.proofs.Rows.{first-in, treats, later-in, rows-others}
 use Rattle.trimming.specs.Trimming.{goneRow, sweptRow}
 use Rattle.trimming.proofs.Sweeps.{row-few}
 use Rattle.trimming.proofs.Trims.{sweptRow-treated, goneRow-count}
@@ -24,15 +24,9 @@ use Rattle.sweeping.specs.Sweeping.{allWhole, sweptFrom, removedFrom, he
 abbrev pub chain : Both → ℕ → Chain
 chain p r = chainOf (p .«data») (p .undo) r
 
--- the n rows from r on are rows of the area, which holds bytes
-pub record Inside (r n : ℕ) (p : Both) : Type 0 where
-  pub within : (t : ℕ) → r ≤ t → t < r + n → t < rows (p .«data»)
-  pub «data» : Bytes (p .«data»)
-  pub undo : Bytes (p .undo)
-
--- and have no break
+-- the n rows from r on are rows of the area, which holds bytes, and have no break
 pub record Ready (r n : ℕ) (p : Both) : Type 0 where
-  pub lies : Inside r n p
+  pub lies : RowsIn (r + n) p
   pub whole : (t : ℕ) → r ≤ t → t < r + n → chain p t .whole ≡ true
 
 -- what an area holds are bytes, element by element
@@ -41,11 +35,10 @@ bytes-each [] h = tt
 bytes-each (x ∷ l) h = (h 0, bytes-each l (λ i. h (suc i)))
 
 pub inside : (d u : List ℕ) (first n : ℕ) → first + n ≤ rows d → ((i : ℕ) → getD d i 0 < 256) → ((i : ℕ) → getD u i 0 < 256)
-    → Inside first n (both d u)
-inside d u first n h each each′ =
-    record { within = λ t low high. omega arith; «data» = bytes-each d each; undo = bytes-each u each′ }
+    → RowsIn (first + n) (both d u)
+inside d u first n h each each′ = record { few = h; «data» = bytes-each d each; undo = bytes-each u each′ }
 
-pub ready : (d u : List ℕ) (first n : ℕ) → Inside first n (both d u) → allWhole d u first n ≡ true → Ready first n (both d u)
+pub ready : (d u : List ℕ) (first n : ℕ) → RowsIn (first + n) (both d u) → allWhole d u first n ≡ true → Ready first n (both d u)
 unfolding allWhole
 ready d u first n lies h =
     record {
@@ -56,68 +49,34 @@ ready d u first n lies h =
     each : (t : ℕ) → first + (t - first) ≡ t → chainOf d u (first + (t - first)) .whole ≡ true → chainOf d u t .whole ≡ true
     each t is w = ap (λ (k : ℕ). chainOf d u k .whole) (sym is) ∙ w
 
--- row t is in p′ as it was in p
-pub record Same (t : ℕ) (p p′ : Both) : Type 0 where
-  pub chains : chain p′ t ≡ chain p t
-  pub slots : slotAt t (p′ .«data») ≡ slotAt t (p .«data»)
-  pub bodies : bodyAt t (p′ .«data») ≡ bodyAt t (p .«data»)
-
-same-trans : {t : ℕ} {p p₁ p₂ : Both} → Same t p p₁ → Same t p₁ p₂ → Same t p p₂
-same-trans f g = record { chains = g .chains ∙ f .chains; slots = g .slots ∙ f .slots; bodies = g .bodies ∙ f .bodies }
-
 module _ (m : ℕ) (s : List ℕ) where
+  pub swept-turns : Turns (sweptRow m s) (sweptFrom m s)
+  unfolding sweptFrom
+  swept-turns =
+      record {
+        none = λ r p. refl;
+        next = λ r n p. refl;
+        treats = λ r p h. sweptRow-treated m s r (p .«data») (p .undo) h;
+      }
+
   -- ---- one row
-
-  module _ (r n : ℕ) (p : Both) (h : Inside r (suc n) p) where
-    here : RowIn r (p .«data») (p .undo)
-    here = record { row = h .within r (omega arith) (omega arith); «data» = h .«data»; undo = h .undo }
-
-    treats : Treated r (p .«data») (p .undo) (sweptRow m s r p .«data») (sweptRow m s r p .undo)
-    treats = sweptRow-treated m s r (p .«data») (p .undo) here
-
-    row-other : (t : ℕ) → (t ≡ r → ⊥) → Same t p (sweptRow m s r p)
-    row-other t ne =
-        record { chains = chainOf-treated treats t ne; slots = treats .slots t ne; bodies = treats .bodies t ne }
-
-    inside-next : Inside (r + 1) n (sweptRow m s r p)
-    inside-next =
-        let long : length (sweptRow m s r p .«data») ≡ length (p .«data») = treats .«data» .long in
-        record {
-          within = λ t low high. rows-kept t long (h .within t (omega arith) (omega arith));
-          «data» = treats .«data» .bytes (h .«data»);
-          undo = treats .undo .bytes (h .undo);
-        }
-      where
-        rows-kept : (t : ℕ) → length (sweptRow m s r p .«data») ≡ length (p .«data») → t < rows (p .«data») → t < rows (sweptRow m s r p .«data»)
-        rows-kept t long k = omega arith
 
   module _ (r n : ℕ) (p : Both) (h : Ready r (suc n) p) where
     row-held : length (chain p r .versions) ≡ goneRow m s r p + length (chain (sweptRow m s r p) r .versions)
-    row-held = goneRow-count m s r (p .«data») (p .undo) (here r n p (h .lies)) (h .whole r (omega arith) (omega arith))
+    row-held =
+        goneRow-count m s r (p .«data») (p .undo) (first-in (sweptRow m s) (sweptFrom m s) swept-turns n r p (h .lies))
+        (h .whole r (omega arith) (omega arith))
+
+    row-other : (t : ℕ) → (t ≡ r → ⊥) → chain (sweptRow m s r p) t ≡ chain p t
+    row-other = chainOf-treated (treats (sweptRow m s) (sweptFrom m s) swept-turns n r p (h .lies))
 
     ready-next : Ready (r + 1) n (sweptRow m s r p)
     ready-next =
         record {
-          lies = inside-next r n p (h .lies);
+          lies = later-in (sweptRow m s) (sweptFrom m s) swept-turns n r p (h .lies);
           whole =
-              λ t low high.
-              ap (λ (c : Chain). c .whole) (row-other r n p (h .lies) t (λ (e : t ≡ r). omega arith) .chains)
-              ∙ h .whole t (omega arith) (omega arith);
+              λ t low high. ap (λ (c : Chain). c .whole) (row-other t (λ (e : t ≡ r). omega arith)) ∙ h .whole t (omega arith) (omega arith);
         }
-
-  -- ---- the rows outside the treated ones keep slot, body and chain
-
-  pub rows-other : (r n : ℕ) (p : Both) → Inside r n p → (t : ℕ) → (t < r) ⊎ (r + n ≤ t) → Same t p (sweptFrom m s r n p)
-  unfolding sweptFrom
-  rows-other r zero p h t out = record { chains = refl; slots = refl; bodies = refl }
-  rows-other r (suc n) p h t out =
-      same-trans
-      (row-other r n p h t (λ (e : t ≡ r). ⊎-elim (λ (k : t < r). omega arith) (λ (k : r + suc n ≤ t). omega arith) out))
-      (rows-other (r + 1) n (sweptRow m s r p) (inside-next r n p h) t (further out))
-    where
-      further : (t < r) ⊎ (r + suc n ≤ t) → (t < r + 1) ⊎ (r + 1 + n ≤ t)
-      further (inl k) = inl (omega arith)
-      further (inr k) = inr (omega arith)
 
   -- ---- "the versions removed, equal to versions held before less versions held after in those rows"
 
@@ -137,9 +96,11 @@ module _ (m : ℕ) (s : List ℕ) where
       sum (length (chain p r .versions)) (heldFrom (r + 1) n p) (goneRow m s r p) (length (chain next r .versions)) (heldFrom (r + 1) n next)
       (length (chain last r .versions)) (removedFrom m s (r + 1) n next) (heldFrom (r + 1) n last)
       (row-held r n p h)
-      (held-same (r + 1) n p next (λ t low. row-other r n p (h .lies) t (λ (e : t ≡ r). omega arith) .chains))
+      (held-same (r + 1) n p next (λ t low. row-other r n p h t (λ (e : t ≡ r). omega arith)))
       (held-removed (r + 1) n next (ready-next r n p h))
-      (ap (λ (c : Chain). length (c .versions)) (rows-other (r + 1) n next (inside-next r n p (h .lies)) r (inl (omega arith)) .chains))
+      (ap (λ (c : Chain). length (c .versions)) (
+      rows-others (sweptRow m s) (sweptFrom m s) swept-turns n (r + 1) next (ready-next r n p h .lies) r (inl (omega arith)) .chains
+      ))
     where
       sum : (a b g x y y′ z z′ : ℕ) → a ≡ g + x → y ≡ b → y ≡ z + z′ → y′ ≡ x → a + b ≡ g + z + (y′ + z′)
       sum a b g x y y′ z z′ e f k l = omega arith

@@ -120,7 +120,7 @@ pub fn sweep(
     if !words::is_sound(desk) {
         return unswept(Answer::Unsound);
     }
-    let rows = data.len() / Kind::PAGE * Kind::DATA.count;
+    let rows = kind::rows(data);
     if first > rows {
         return unswept(Answer::BadArgument);
     }

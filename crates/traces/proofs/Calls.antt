@@ -2,22 +2,17 @@
 -- bytes, and what txn_id and item_count the other pages get. Assumes nothing.
 use mathlib.Core.Path.{_≡_, refl, sym, ap, subst, _∙_}
 use mathlib.Core.Logic.{_⊎_, inl, inr}
-use mathlib.Core.Bool.{not}
 use mathlib.Core.List.{List, [], _∷_}
 use Prim.Native.Nat.{ℕ, _+_, _^_, _<_}
 use native.Mathlib.Omega.{arith}
 use lib.ListN.{replicate}
 use lib.Seq.{sets}
-use lib.Dec.{ltb}
-use borrow.Author.Tests.{ltb-false}
-use Rattle.ground.proofs.Refusals.{firstOf-none}
 use Rattle.places.specs.Open.{placeIn}
 use Rattle.desk.specs.declared.Desk.{Desk}
 use Rattle.desk.specs.Desk.{firstStatement}
-use Rattle.desk.specs.Sound.{sound}
 use Rattle.desk.specs.Turns.{mark}
 use Rattle.kind.specs.Kind.{rows, dataKind, undoKind}
-use Rattle.kind.specs.Areas.{Areas, areas, badLength, Both, both}
+use Rattle.kind.specs.Areas.{Areas, areas, Both, both}
 use Rattle.records.specs.Slot.{slotOf, slotBytes, slotAt}
 use Rattle.records.specs.Entry.{entryOf, entryBytes, entryAt}
 use Rattle.chain.specs.Chain.{chainOf}
@@ -27,8 +22,9 @@ use Rattle.trimming.specs.Trimming.{goneRow, sweptRow}
 use Rattle.admit.proofs.Admissions.{Admits, accepts, admits-from, admits-session}
 use Rattle.undoing.specs.Undoing.{someBroken, undoneFrom, undone, withdrawRefusal, withdrawn, withdrawRule}
 use Rattle.sweeping.specs.Sweeping.{treated, sweptFrom, sweepRefusal, swept, sweepRule}
-use Rattle.sweeping.proofs.Calls.{treats-few}
-use Rattle.outcomes.proofs.Outcomes.{undone-turns, swept-turns}
+use Rattle.sweeping.proofs.Treats.{swept-turns}
+use Rattle.sweeping.proofs.Calls.{treats-inside}
+use Rattle.outcomes.proofs.Outcomes.{undone-turns}
 use Rattle.traces.specs.Traces.{Touched, Counted, Zeros, SweptBytes, Lent, Spared, HoldsOne, SweepSlots, SweepEntries, SweepOthers, SweepRecords, SweepPages, WithdrawSlots, WithdrawEntries, WithdrawOthers, WithdrawRecords, WithdrawPages}
 use Rattle.records.proofs.Stores.{create-cut, writer-cut}
 use Rattle.traces.proofs.Pages.{data-held, undo-held, counting, touching}
@@ -68,12 +64,7 @@ module _ (a : Areas) (d : Desk) (first quota : ℕ) (lent : Lent a) (ok : sweepR
   sweep-does = sym (rw ok)
 
   rows-in : RowsIn (first + n) before
-  unfolding sweepRefusal
-  rows-in =
-      let l = firstOf-none (badLength a) 1 _ (λ z. omega arith) ok in
-      let b = firstOf-none (not (sound d)) 2 _ (λ z. omega arith) (l .1) in
-      let f = firstOf-none (ltb (rows (a .«data»)) first) 5 _ (λ z. omega arith) (b .1) in
-      record { few = treats-few (a .«data») first quota (ltb-false (rows (a .«data»)) first (f .0)); «data» = lent .«data»; undo = lent .undo }
+  rows-in = record { few = treats-inside a d first quota ok; «data» = lent .«data»; undo = lent .undo }
 
   abbrev Swept : Areas → Type 0
   Swept z =

@@ -12,14 +12,14 @@ use borrow.Author.Tests.{eqb-true, eqb-false}
 use Rattle.little.specs.Little.{part}
 use Rattle.kind.specs.declared.Kind.{Kind}
 use Rattle.kind.specs.Kind.{pages, dataKind, undoKind}
-use Rattle.kind.proofs.Places.{Lie, Within, within-other, within-page, length-within}
+use Rattle.kind.proofs.Places.{Lie, Within, length-within}
 use Rattle.records.proofs.Slots.{slots-lie}
 use Rattle.records.proofs.Entries.{entries-lie}
 use Rattle.page.specs.Header.{pageAt}
 use Rattle.page.specs.Count.{counted, touched}
-use Rattle.page.proofs.Counts.{recordAt-counted, recordAt-touched}
-use Rattle.traces.specs.Traces.{Touched, Counted, recordIn, TouchedAt}
-use Rattle.page.proofs.Touches.{recordAt-page, part-within, part-within-behind, items-counted, part-counted-before, part-counted-after, pageAt-counted-other, number-touched, items-touched, part-touched-before, part-touched-between, part-touched-after, pageAt-touched-other}
+use Rattle.page.proofs.Stored.{Stored, stored-counted, stored-touched, recordAt-stored-other, pageAt-stored-other}
+use Rattle.traces.specs.Traces.{Touched, Counted, TouchedAt}
+use Rattle.page.proofs.Touches.{recordAt-page, part-within, part-within-behind, items-counted, part-counted-before, part-counted-after, number-touched, items-touched, part-touched-before, part-touched-between, part-touched-after}
 
 -- ---- a kind of area whose records lie in their page, and few enough to be counted in two bytes
 
@@ -39,8 +39,7 @@ undo-held = record { lie = entries-lie; few = omega arith; last = omega arith; f
 
 pub record Marks (k : Kind) (R : List ℕ → List ℕ → Type 0) (mark : ℕ → List ℕ → List ℕ) : Type 0 where
   pub held : Held k
-  pub records : (p t : ℕ) (s : List ℕ) → recordIn k t (mark p s) ≡ recordIn k t s
-  pub others : (p : ℕ) (s : List ℕ) (q : ℕ) → (q ≡ p → ⊥) → pageAt q (mark p s) ≡ pageAt q s
+  pub stores : {r : ℕ} {s y : List ℕ} → Within 8192 (k .size) (k .count) r s y → Stored (k .size) (k .count) r s (mark (r / k .count) y)
   pub marks : {r : ℕ} {s y : List ℕ} → Within 8192 (k .size) (k .count) r s y → (p : ℕ) → p * 8192 + 8192 ≤ length y
       → R (pageAt p s) (pageAt p (mark p y))
   pub again : {x y z : List ℕ} → R x y → R y z → R x z
@@ -55,8 +54,7 @@ module _ (k : Kind) (held : Held k) where
   counting =
       record {
         held = held;
-        records = λ p t s. recordAt-counted (held .lie) k p t s;
-        others = pageAt-counted-other k;
+        stores = λ w. stored-counted (held .lie) w k;
         marks = λ {r} {s} {y} w p inside.
             record {
               count = items-counted k p y (held .few) inside;
@@ -72,8 +70,7 @@ module _ (k : Kind) (held : Held k) where
   touching n fits =
       record {
         held = held;
-        records = λ p t s. recordAt-touched (held .lie) k p t s n;
-        others = λ p s. pageAt-touched-other k p s n;
+        stores = λ w. stored-touched (held .lie) w k n;
         marks = λ {r} {s} {y} w p inside.
             record {
               number = number-touched k p y n fits inside;
@@ -104,8 +101,7 @@ module _ {k : Kind} {R : List ℕ → List ℕ → Type 0} {mark : ℕ → List 
         m .marks w (r / k .count) (omega (arith, length-within lie w))
 
     others : (p : ℕ) → (p ≡ r / k .count → ⊥) → pageAt p left ≡ pageAt p s
-    unfolding pageAt
-    others p ne = m .others (r / k .count) y p ne ∙ within-page lie w p ne
+    others = pageAt-stored-other lie (m .stores w)
 
     -- a page that changed is the one that was marked, and a record that changed lies in it
     changed : (p : ℕ) → (pageAt p left ≡ pageAt p s → ⊥) → R (pageAt p s) (pageAt p left)
@@ -120,7 +116,7 @@ module _ {k : Kind} {R : List ℕ → List ℕ → Type 0} {mark : ℕ → List 
         record {
           here = here;
           pages = others;
-          records = λ t ne. m .records (r / k .count) t y ∙ within-other lie w t ne;
+          records = recordAt-stored-other lie (m .stores w);
           changed = changed;
           written = λ t differs. changed (t / k .count) (λ same. differs (recordAt-page lie t s left same));
         }

@@ -13,6 +13,7 @@ use Rattle.records.specs.Slot.{slotAt}
 use Rattle.chain.specs.Chain.{Version, Chain, chainOf}
 use Rattle.strands.specs.Strands.{Treated, RowIn, RowsIn, Turns}
 use Rattle.strands.proofs.Apart.{chainOf-treated}
+use Rattle.strands.proofs.Rows.{first-in, treats, later-in}
 use Rattle.traces.specs.Traces.{HoldsOne}
 use Rattle.traces.proofs.Pages.{Marks}
 use Rattle.traces.proofs.Confined.{Confined, confined-refl, confined-more, confined-trans}
@@ -71,17 +72,13 @@ module _ {D U S E : List ℕ → List ℕ → Type 0} {markD markU : ℕ → Lis
           «data» = confined-refl (λ (t : ℕ). oneOf r zero t × asked v p t) (p .«data»);
           undo = confined-refl (EntryOfOne w r zero p) (p .undo);
         })
-    rows-tread (suc n) r p h = by (rows-tread n (r + 1) (f r p) later)
+    rows-tread (suc n) r p h = by (rows-tread n (r + 1) (f r p) (later-in f g turns n r p h))
       where
         here : RowIn r (p .«data») (p .undo)
-        here = record { row = omega (arith, h .few); «data» = h .«data»; undo = h .undo }
+        here = first-in f g turns n r p h
 
         k : Treated r (p .«data») (p .undo) (f r p .«data») (f r p .undo)
-        k = turns .treats r p here
-
-        later : RowsIn (r + 1 + n) (f r p)
-        later =
-            record { few = omega (arith, h .few, k .«data» .long); «data» = k .«data» .bytes (h .«data»); undo = k .undo .bytes (h .undo) }
+        k = treats f g turns n r p h
 
         Slots : ℕ → Type 0
         Slots t = oneOf (r + 1) n t × asked v (f r p) t

@@ -16,7 +16,7 @@ use Rattle.kind.specs.Kind.{entries, dataKind, undoKind}
 use Rattle.kind.specs.Areas.{Both, both}
 use Rattle.records.specs.declared.slot.Slot.{Slot}
 use Rattle.records.specs.declared.entry.Entry.{Entry}
-use Rattle.records.specs.Slot.{slotAt, slotBytes}
+use Rattle.records.specs.Slot.{slotAt, slotBytes, unlinked}
 use Rattle.records.specs.Entry.{entryBytes}
 use Rattle.records.proofs.Slots.{slotAt-same}
 use Rattle.records.proofs.Entries.{entryAt-same}
@@ -33,7 +33,7 @@ use Rattle.freeing.proofs.Freeings.{create-sweptSlot, writer-sweptEntry, slotAt
 use Rattle.strands.specs.Strands.{Keeps, RowIn, entryIn, Step, Strand}
 use Rattle.strands.proofs.Strands.{sweptEntry-frees}
 use Rattle.strands.proofs.Runs.{step-place, step-inside, step-slot, strand-freed, keeps-first, chain-strand}
-use Rattle.trimming.specs.Trimming.{deadIn, sweptAt, sweptAll, unlinked, cutAt, sweptBehind, sweptVersions, sweptRow, goneBehind}
+use Rattle.trimming.specs.Trimming.{deadIn, sweptAt, sweptAll, cutAt, sweptBehind, sweptVersions, sweptRow, goneBehind}
 use Rattle.trimming.proofs.Trims.{unlinked-fit, step-fit, sweptAll-keeps, shaped-sweptAll, behind-data}
 use Rattle.traces.specs.Traces.{Counted, SweptBytes, HoldsOne}
 use Rattle.freeing.proofs.Clearings.{sweptSlot-zeros, sweptEntry-zeros, cutSlot-zeros, cutCopy-zeros}

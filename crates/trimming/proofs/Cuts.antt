@@ -10,10 +10,11 @@ use Rattle.kind.specs.Areas.{both}
 use Rattle.sight.specs.Sight.{committed}
 use Rattle.sight.specs.Conflict.{isDead}
 use Rattle.records.specs.declared.slot.Slot.{Slot}
+use Rattle.records.specs.Slot.{unlinked}
 use Rattle.chain.specs.declared.Place.{Place}
 use Rattle.chain.specs.declared.Place.the-variants.{Nowhere, Data, Undo}
 use Rattle.freeing.specs.Freeing.{cutSlot, cutCopy}
-use Rattle.trimming.specs.Trimming.{deadIn, unlinked, cutAt, inside}
+use Rattle.trimming.specs.Trimming.{deadIn, cutAt, inside}
 
 -- ---- "whose expirer is committed and below the mark"
 

@@ -13,7 +13,7 @@ use Rattle.kind.specs.Kind.{pages, entries}
 use Rattle.kind.specs.Areas.{Both, both}
 use Rattle.records.specs.declared.slot.Slot.{Slot}
 use Rattle.records.specs.declared.entry.Entry.{Entry}
-use Rattle.records.specs.Slot.{slotAt, bodyAt}
+use Rattle.records.specs.Slot.{slotAt, bodyAt, unlinked}
 use Rattle.records.proofs.Slots.{SlotFit}
 use Rattle.records.proofs.Fits.{fit-slot, slotAt-fit, copy-fit}
 use Rattle.chain.specs.declared.Place.{Place}
@@ -22,15 +22,16 @@ use Rattle.chain.specs.declared.Link.the-variants.{End}
 use Rattle.chain.specs.Chain.{Version, Chain, ended, onto, chainFrom, chainOf, linkOf}
 use Rattle.chain.proofs.Links.{link-zero, link-none}
 use Rattle.chain.proofs.Rows.{chainOf-empty, chainOf-used}
+use Rattle.page.proofs.Stored.{slotAt-stored-other, bodyAt-stored-other}
 use Rattle.freeing.specs.Freeing.{sweptSlot, sweptEntry, cutSlot, cutCopy}
-use Rattle.freeing.proofs.Freeings.{slotAt-stored-other, bodyAt-stored-other, sweptSlot-is, create-sweptSlot, cutSlot-is, slotAt-cutSlot, bodyAt-cutSlot, entryAt-cutCopy}
+use Rattle.freeing.proofs.Freeings.{sweptSlot-is, create-sweptSlot, cutSlot-is, slotAt-cutSlot, bodyAt-cutSlot, entryAt-cutCopy}
 use Rattle.strands.specs.Strands.{Frees, Keeps, Shaped, Treated, RowIn, entryIn, Step, Strand, front, having, onLast}
 use Rattle.strands.proofs.Strands.{sweptEntry-frees}
 use Rattle.strands.proofs.Apart.{chainOf-treated}
 use Rattle.strands.proofs.Rows.{treated-refl}
 use Rattle.strands.proofs.Shapes.{shaped-refl, shaped-trans, shaped-sweptSlot, shaped-cutSlot, shaped-sweptEntry, shaped-cutCopy}
 use Rattle.strands.proofs.Runs.{step-place, step-inside, step-slot, step-kept, step-cut, strand-freed, keeps-refl, keeps-fewer, keeps-first, keeps-freed, keeps-cut, chain-strand, chain-few, chainOf-strand}
-use Rattle.trimming.specs.Trimming.{deadIn, sweptAt, sweptAll, unlinked, cutAt, sweptBehind, sweptVersions, sweptRow, goneBehind, goneRow}
+use Rattle.trimming.specs.Trimming.{deadIn, sweptAt, sweptAll, cutAt, sweptBehind, sweptVersions, sweptRow, goneBehind, goneRow}
 
 -- ---- a version that stays
 

@@ -7,6 +7,7 @@ use lib.ListN.{length}
 use Rattle.kind.specs.Kind.{rows, entries}
 use Rattle.kind.specs.Areas.{Both, both}
 use Rattle.records.specs.declared.slot.Slot.{Slot}
+use Rattle.records.specs.Slot.{unlinked}
 use Rattle.sight.specs.Conflict.{isDead}
 use Rattle.chain.specs.declared.Place.{Place}
 use Rattle.chain.specs.declared.Place.the-variants.{Nowhere, Data, Undo}
@@ -31,11 +32,6 @@ sweptAll [] u = u
 sweptAll (x ∷ xs) u = sweptAll xs (sweptAt (x .place) u)
 
 -- ---- what stays in front of it
-
--- "the newer version's pointer becomes 0"
-abbrev pub unlinked : Slot → Slot
-unlinked x =
-    record { create = x .create; expire = x .expire; «undo_ptr» = 0; cmd = x .cmd; «expire_cmd» = x .«expire_cmd» }
 
 abbrev pub cutAt : Place → Slot → Both → Both
 cutAt (Data r) x p = both (cutSlot r (unlinked x) (p .«data»)) (p .undo)

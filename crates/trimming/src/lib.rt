@@ -3,16 +3,16 @@
 // pages written in are due in the flags lent, so each contract speaks of the areas tallied, before and after.
 use chain::Link;
 use chain::Place;
-use kind::Kind;
 use records::slot::Slot;
 ghost use mathlib.Core.Path.{_≡_};
 ghost use mathlib.Core.Bool.{true};
 ghost use Prim.Native.Nat.{_≤_, _<_};
 ghost use lib.ListN.{length};
 ghost use Rattle.kind.specs.Kind.{pageSize, dataKind, undoKind, pages, rows};
+ghost use Rattle.records.specs.Slot.{unlinked};
 ghost use Rattle.chain.specs.Chain.{chainOf};
 ghost use Rattle.freeing.specs.Tally.{tallied, talliedBoth};
-ghost use Rattle.trimming.specs.Trimming.{deadIn, unlinked, inside, cutAt, sweptRow, goneRow};
+ghost use Rattle.trimming.specs.Trimming.{deadIn, inside, cutAt, sweptRow, goneRow};
 ghost use Rattle.trimming.specs.Rest.{restFrom, sweptRest, goneOlder, sweptOlder};
 
 // Whether a version's "expirer is committed and below the mark".
@@ -32,7 +32,7 @@ pub fn is_whole<'a>(data: &'a [u8], undo: &'a [u8], r: usize) -> bool
     if m.create == 0 {
         return true;
     }
-    let most = undo.len() / Kind::PAGE * Kind::UNDO.count;
+    let most = kind::entries(undo);
     let mut ptr = m.undo_ptr;
     let mut looked = 1;
     let whole = loop {
@@ -58,7 +58,7 @@ fn free_rest(undo: &mut [u8], due: &mut [u8], r: usize, first: u64) -> usize
     ensures counts { λ n. ⌜ n ≡ length (restFrom r first (tallied undoKind (now (due .entry)) (now (undo .entry))) .versions) ⌝ }
     ensures leaves { λ _. ⌜ tallied undoKind (now (due .exit)) (now (undo .exit)) ≡ sweptRest r first (tallied undoKind (now (due .entry)) (now (undo .entry))) ⌝ }
 {
-    let most = undo.len() / Kind::PAGE * Kind::UNDO.count;
+    let most = kind::entries(undo);
     let mut ptr = first;
     let mut n = 0;
     while n < most {
@@ -120,7 +120,7 @@ fn sweep_behind(
     ensures counts { λ n. ⌜ n ≡ goneOlder mark (now (status .entry)) r m (talliedBoth (now («data_due» .entry)) (now («data» .entry)) (now («undo_due» .entry)) (now (undo .entry))) ⌝ }
     ensures leaves { λ _. ⌜ talliedBoth (now («data_due» .exit)) (now («data» .exit)) (now («undo_due» .exit)) (now (undo .exit)) ≡ sweptOlder mark (now (status .entry)) r m (talliedBoth (now («data_due» .entry)) (now («data» .entry)) (now («undo_due» .entry)) (now (undo .entry))) ⌝ }
 {
-    let mut left = undo.len() / Kind::PAGE * Kind::UNDO.count;
+    let mut left = kind::entries(undo);
     let mut at = Place::Data(r);
     let mut newer = m;
     while left > 0 {

@@ -3,7 +3,8 @@ use mathlib.Core.Path.{_≡_, sym, ap, _∙_}
 use mathlib.Core.List.{List}
 use Prim.Native.Nat.{ℕ, suc, _+_, _-_, _≤_, _<_}
 use native.Mathlib.Omega.{arith}
-use Rattle.kind.specs.Areas.{Both, both}
+use Rattle.kind.specs.Kind.{rows}
+use Rattle.kind.specs.Areas.{both}
 use Rattle.putback.specs.PutBack.{undoneRow}
 use Rattle.undoing.specs.Undoing.{undoneFrom}
 
@@ -21,5 +22,5 @@ module _ (n k most r : ℕ) (d u : List ℕ) where
   rows-end h = let s : most - r ≡ 0 = omega arith in ap (λ (m : ℕ). undoneFrom n k r m (both d u)) (sym s)
 
 -- nothing is done yet
-pub rows-start : (n k most : ℕ) (p : Both) → undoneFrom n k 0 (most - 0) p ≡ undoneFrom n k 0 most p
-rows-start n k most p = let s : most - 0 ≡ most = omega arith in ap (λ (m : ℕ). undoneFrom n k 0 m p) s
+pub rows-start : {most : ℕ} (n k : ℕ) (d u : List ℕ) → most ≡ rows d → undoneFrom n k 0 (most - 0) (both d u) ≡ undoneFrom n k 0 (rows d) (both d u)
+rows-start {most} n k d u all = let s : most - 0 ≡ rows d = omega arith in ap (λ (m : ℕ). undoneFrom n k 0 m (both d u)) s

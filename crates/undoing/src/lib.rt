@@ -3,7 +3,6 @@ use admit::Admitted;
 use answer::Answer;
 use chain::Link;
 use desk::Desk;
-use kind::Kind;
 use status::Status;
 use words::Words;
 ghost use mathlib.Core.Path.{_≡_};
@@ -20,8 +19,8 @@ fn is_broken<'a>(data: &'a [u8], undo: &'a [u8], number: u64, k: u32) -> bool
     requires { ⌜ 0 < number ⌝ }
     ensures { λ b. ⌜ b ≡ someBroken number k (now («data» .entry)) (now (undo .entry)) ⌝ }
 {
-    let rows = data.len() / Kind::PAGE * Kind::DATA.count;
-    let most = undo.len() / Kind::PAGE * Kind::UNDO.count;
+    let rows = kind::rows(data);
+    let most = kind::entries(undo);
     let mut r = 0;
     let broken = 'rows: loop {
         if r >= rows {
@@ -60,7 +59,7 @@ fn undo_rows(data: &mut [u8], undo: &mut [u8], number: u64, k: u32)
     requires { ⌜ 0 < number ⌝ }
     ensures { λ _. ⌜ both (now («data» .exit)) (now (undo .exit)) ≡ undoneFrom number k 0 (rows (now («data» .entry))) (both (now («data» .entry)) (now (undo .entry))) ⌝ }
 {
-    let rows = data.len() / Kind::PAGE * Kind::DATA.count;
+    let rows = kind::rows(data);
     let mut r = 0;
     while r < rows {
         putback::undo_row(data, undo, r, number, k);

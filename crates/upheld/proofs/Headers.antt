@@ -10,14 +10,14 @@ use Rattle.kind.specs.Kind.{dataKind, undoKind}
 use Rattle.kind.specs.Areas.{Both}
 use Rattle.pointer.specs.Pointer.{pointerTo}
 use Rattle.records.specs.declared.slot.Slot.{Slot}
-use Rattle.records.specs.Slot.{slotAt, bodyAt}
+use Rattle.records.specs.Slot.{slotAt, bodyAt, unlinked}
 use Rattle.records.proofs.Bodies.{bodyAt-short, copyBodyAt-short, bytes-bodyAt, bytes-copyBodyAt}
 use Rattle.chain.specs.declared.Place.{Place}
 use Rattle.chain.specs.declared.Place.the-variants.{Nowhere, Data, Undo}
 use Rattle.writing.specs.Writing.{made, expired, kept, inserted, updatedUndo, updatedData, deleted}
 use Rattle.putback.specs.PutBack.{freedAt, copyBody}
 use Rattle.undoing.specs.Undoing.{undone}
-use Rattle.trimming.specs.Trimming.{sweptAt, unlinked, cutAt}
+use Rattle.trimming.specs.Trimming.{sweptAt, cutAt}
 use Rattle.sweeping.specs.Sweeping.{sweptFrom}
 use Rattle.outcomes.proofs.Kept.{Withdraws, Trims, undone-keeps, swept-keeps}
 use Rattle.keep.proofs.Promises.{Sealable}

@@ -1,6 +1,5 @@
 -- Every write of a record keeps the headers right: a store within a record of a page, then the count of that page anew. One law over
 -- the store, cited by the nine writers; a record outside the area does no harm. Assumes nothing.
-use mathlib.Core.Path.{_∙_}
 use mathlib.Core.List.{List}
 use Prim.Native.Nat.{ℕ, _+_, _/_, _≤_, _<_}
 use native.Mathlib.Omega.{arith}
@@ -8,15 +7,16 @@ use lib.ListN.{length}
 use Rattle.little.specs.Little.{Bytes}
 use Rattle.kind.specs.declared.Kind.{Kind}
 use Rattle.kind.specs.Kind.{dataKind, undoKind}
-use Rattle.kind.proofs.Places.{Lie, Within, length-within}
+use Rattle.kind.proofs.Places.{Lie, Within}
 use Rattle.records.specs.declared.slot.Slot.{Slot}
 use Rattle.records.specs.declared.entry.Entry.{Entry}
 use Rattle.records.proofs.Slots.{WithinSlot, slots-lie, putSlot-within, putMeta-within, clearSlot-within}
 use Rattle.records.proofs.Entries.{WithinEntry, entries-lie, putEntry-within, putCopy-within, clearEntry-within}
 use Rattle.records.proofs.Fits.{bytes-putMeta, bytes-putSlot, bytes-clearSlot, bytes-putEntry, bytes-putCopy, bytes-clearEntry}
 use Rattle.page.specs.Count.{counted, touched}
-use Rattle.page.proofs.Counts.{length-counted, bytes-counted}
-use Rattle.whole.proofs.Headers.{pageAt-recounted, headerRight-recounted}
+use Rattle.page.proofs.Counts.{bytes-counted}
+use Rattle.page.proofs.Stored.{Stored, stored-counted, length-stored, pageAt-stored-other}
+use Rattle.whole.proofs.Headers.{headerRight-recounted}
 use Rattle.touching.specs.Touching.{withSlot, withMeta, withEntry}
 use Rattle.freeing.specs.Freeing.{withoutSlot, withoutEntry, sweptSlot, sweptEntry, cutSlot, cutCopy}
 use Rattle.keep.proofs.Promises.{Sealable}
@@ -30,10 +30,11 @@ module _ (k : Kind) (lie : Lie 8192 (k .size) (k .count)) (few : k .count < 6553
   where
     sealable-counted : Sealable k (counted k (r / k .count) y)
     sealable-counted =
+        let z : Stored (k .size) (k .count) r s (counted k (r / k .count) y) = stored-counted lie w k in
         sealable-page k (r / k .count) s (counted k (r / k .count) y)
-        (length-counted k (r / k .count) y ∙ length-within lie w)
+        (length-stored lie z)
         (bytes-counted k (r / k .count) y own)
-        (pageAt-recounted k lie w)
+        (pageAt-stored-other lie z)
         (headerRight-recounted k lie w (r / k .count + 1) few)
         h
 

@@ -9,12 +9,12 @@ use lib.Dec.{eqb, ltb, leb}
 use borrow.Author.Tests.{eqb-true, eqb-false}
 use Rattle.kind.specs.Kind.{entries}
 use Rattle.kind.specs.Areas.{Both, both}
-use Rattle.records.specs.Slot.{slotAt}
+use Rattle.records.specs.Slot.{slotAt, unlinked}
 use Rattle.chain.specs.Chain.{Version, Chain, chainFrom, chainOf}
 use Rattle.chain.proofs.Rows.{slotVersion, chainOf-empty, chainOf-used}
 use Rattle.strands.specs.Strands.{Shaped, Treated, RowIn, RowsIn, front, onLast}
-use Rattle.trimming.specs.Trimming.{deadIn, unlinked, sweptRow}
-use Rattle.outcomes.proofs.Outcomes.{swept-turns}
+use Rattle.trimming.specs.Trimming.{deadIn, sweptRow}
+use Rattle.sweeping.proofs.Treats.{swept-turns}
 use Rattle.trimming.proofs.Trims.{sweptRow-treated, bodyAt-sweptRow-own, chainOf-sweptRow-own}
 use Rattle.sweeping.specs.Sweeping.{sweptFrom}
 use Rattle.versions.specs.Versions.{AllWhole}

@@ -14,7 +14,8 @@ use Rattle.records.specs.declared.entry.Entry.{Entry}
 use Rattle.records.specs.Slot.{slotAt, bodyAt}
 use Rattle.records.specs.Entry.{entryAt, copyBodyAt}
 use Rattle.records.proofs.Bodies.{length-bodyAt}
-use Rattle.touching.proofs.Touchings.{bodyAt-written-other, copyBodyAt-written-other, withSlot-written, bodyAt-withSlot, withMeta-written, bodyAt-withMeta, withEntry-written, copyBodyAt-withEntry, length-withMeta, length-withSlot, length-withEntry}
+use Rattle.page.proofs.Stored.{bodyAt-stored-other, copyBodyAt-stored-other}
+use Rattle.touching.proofs.Touchings.{withSlot-is, bodyAt-withSlot, withMeta-is, bodyAt-withMeta, withEntry-is, copyBodyAt-withEntry, length-withMeta, length-withSlot, length-withEntry}
 use Rattle.writing.specs.Writing.{made, expired, kept, inserted, updatedUndo, updatedData, deleted}
 use Rattle.chain.specs.declared.Place.{Place}
 use Rattle.chain.specs.declared.Place.the-variants.{Nowhere, Data, Undo}
@@ -169,7 +170,7 @@ module _ (n c r : ℕ) (body d u : List ℕ) (long : length body ≡ 32) (f : Fi
       record {
         sizeData = length-inserted n c r body d;
         sizeUndo = refl;
-        slots = bodyAt-written-other (withSlot-written n r (made n c 0) body d long);
+        slots = bodyAt-stored-other (withSlot-is n r (made n c 0) body d long);
         copies = λ e h. refl;
       }
 
@@ -193,7 +194,7 @@ module _ (n c r : ℕ) (d u : List ℕ) (f : Fits n c r d) (used : slotAt r d .c
       record {
         sizeData = length-deleted n c r d;
         sizeUndo = refl;
-        slots = bodyAt-written-other (withMeta-written n r (expired n c (slotAt r d)) d);
+        slots = bodyAt-stored-other (withMeta-is n r (expired n c (slotAt r d)) d);
         copies = λ e h. refl;
       }
 
@@ -220,10 +221,10 @@ module _ (n c r e : ℕ) (body d u : List ℕ) (f : Fits n c r d) (g : Takes r e
       record {
         sizeData = length-updatedData n c r e body d;
         sizeUndo = length-updatedUndo n c r e d u;
-        slots = bodyAt-written-other (withSlot-written n r (made n c (pointerTo e)) body d long);
+        slots = bodyAt-stored-other (withSlot-is n r (made n c (pointerTo e)) body d long);
         copies =
             λ t h.
-            copyBodyAt-written-other (withEntry-written n e (kept n c r (slotAt r d)) (bodyAt r d) u (length-bodyAt r d (f .row))) t
+            copyBodyAt-stored-other (withEntry-is n e (kept n c r (slotAt r d)) (bodyAt r d) u (length-bodyAt r d (f .row))) t
             (λ z. h (ap (λ (x : ℕ). entryAt x u .writer) z ∙ g .free));
       }
 

@@ -131,10 +131,11 @@ module _ {i : ℕ} (k : Kind) (s : List ℕ) (n p : ℕ) (inside : p < n)
 pub lowestFrom-end : (k : Kind) (s : List ℕ) (n : ℕ) → lowestFrom k s n n ≡ n * k .count
 lowestFrom-end k s n = first-end (idleAt k s) (n * k .count) (n * k .count) (omega arith)
 
-pub lowestFrom-start : (k : Kind) (s : List ℕ) → lowestFrom k s (pages s) 0 ≡ lowest k s
+pub lowestFrom-start : {n : ℕ} (k : Kind) (s : List ℕ) → n ≡ pages s → lowestFrom k s n 0 ≡ lowest k s
 unfolding lowest
-lowestFrom-start k s =
-    ap (λ (j : ℕ). firstFrom (idleAt k s) j (pages s * k .count - j)) (zero-mul (k .count))
+lowestFrom-start k s all =
+    ap (λ (m : ℕ). lowestFrom k s m 0) all
+    ∙ ap (λ (j : ℕ). firstFrom (idleAt k s) j (pages s * k .count - j)) (zero-mul (k .count))
     ∙ first-start (idleAt k s) (pages s * k .count)
 
 -- ---- slots and entries

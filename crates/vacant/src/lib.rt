@@ -31,7 +31,7 @@ fn lowest_of(s: &[u8], k: Kind) -> usize
     ensures { λ r. ⌜ r ≡ lowest k (now (s .entry)) ⌝ }
 {
     let count = k.count;
-    let n = s.len() / Kind::PAGE;
+    let n = kind::pages(s);
     let mut p = 0;
     while p < n {
         let at = p * Kind::PAGE;

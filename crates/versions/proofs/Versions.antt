@@ -29,7 +29,8 @@ use Rattle.chain.proofs.Links.{unfit-free, unfit-other, carries-unfit, Real, li
 use Rattle.chain.proofs.Chains.{copyOf, chainFrom-end, chainFrom-break, chainFrom-passed, chainFrom-on, chainFrom-full}
 use Rattle.chain.proofs.Enough.{more}
 use Rattle.chain.proofs.Rows.{broken, chainOf-used, chainOf-slot, chainOf-agree}
-use Rattle.touching.proofs.Touchings.{WrittenEntry, length-written, slotAt-written-other, entryAt-written-other, withSlot-written, slotAt-withSlot, withMeta-written, slotAt-withMeta, withEntry-written, entryAt-withEntry}
+use Rattle.page.proofs.Stored.{StoredEntry, length-stored, slotAt-stored-other, entryAt-stored-other}
+use Rattle.touching.proofs.Touchings.{withSlot-is, slotAt-withSlot, withMeta-is, slotAt-withMeta, withEntry-is, entryAt-withEntry}
 use Rattle.writing.specs.Writing.{made, expired, kept, inserted, updatedUndo, updatedData, deleted}
 use Rattle.versions.specs.Versions.{older, AllWhole, Fits, Takes}
 
@@ -79,7 +80,7 @@ module _ (n c r : ℕ) (body d u : List ℕ) (long : length body ≡ 32) where
   pub chainOf-inserted-other : (t : ℕ) → (t ≡ r → ⊥) → chainOf (inserted n c r body d) u t ≡ chainOf d u t
   unfolding inserted
   chainOf-inserted-other t ne =
-      chainOf-agree u u t (λ ptr. refl) d (inserted n c r body d) refl (slotAt-written-other (withSlot-written n r (made n c 0) body d long) t ne)
+      chainOf-agree u u t (λ ptr. refl) d (inserted n c r body d) refl (slotAt-stored-other (withSlot-is n r (made n c 0) body d long) t ne)
 
   module _ (f : Fits n c r d) where
     -- the one new version, whole. That the row was empty is no premise: nothing of what it held is left
@@ -94,7 +95,7 @@ module _ (n c r : ℕ) (body d u : List ℕ) (long : length body ≡ 32) where
     pub whole-inserted : AllWhole d u → AllWhole (inserted n c r body d) u
     unfolding inserted
     whole-inserted =
-        whole-after d (inserted n c r body d) u u r (length-written slots-lie (withSlot-written n r (made n c 0) body d long))
+        whole-after d (inserted n c r body d) u u r (length-stored slots-lie (withSlot-is n r (made n c 0) body d long))
         chainOf-inserted-other
         (ap (λ (x : Chain). x .whole) chainOf-inserted-own)
 
@@ -104,7 +105,7 @@ module _ (n c r : ℕ) (d u : List ℕ) where
   pub chainOf-deleted-other : (t : ℕ) → (t ≡ r → ⊥) → chainOf (deleted n c r d) u t ≡ chainOf d u t
   unfolding deleted
   chainOf-deleted-other t ne =
-      chainOf-agree u u t (λ ptr. refl) d (deleted n c r d) refl (slotAt-written-other (withMeta-written n r (expired n c (slotAt r d)) d) t ne)
+      chainOf-agree u u t (λ ptr. refl) d (deleted n c r d) refl (slotAt-stored-other (withMeta-is n r (expired n c (slotAt r d)) d) t ne)
 
   module _ (f : Fits n c r d) (used : slotAt r d .create ≡ 0 → ⊥) where
     -- the first version has its expirer, and what is older is as it was
@@ -119,7 +120,7 @@ module _ (n c r : ℕ) (d u : List ℕ) where
     pub whole-deleted : AllWhole d u → AllWhole (deleted n c r d) u
     unfolding deleted
     whole-deleted all =
-        whole-after d (deleted n c r d) u u r (length-written slots-lie (withMeta-written n r (expired n c (slotAt r d)) d))
+        whole-after d (deleted n c r d) u u r (length-stored slots-lie (withMeta-is n r (expired n c (slotAt r d)) d))
         chainOf-deleted-other
         (ap (λ (x : Chain). x .whole) chainOf-deleted-own ∙ all r (f .row))
         all
@@ -242,12 +243,12 @@ module _ (n c r e : ℕ) (body d u : List ℕ) (f : Fits n c r d) (g : Takes r e
   taken : Taken r e u undo'
   unfolding updatedUndo
   taken =
-      let w : WrittenEntry e u undo' = withEntry-written n e entry (bodyAt r d) u (length-bodyAt r d (f .row)) in
+      let w : StoredEntry e u undo' = withEntry-is n e entry (bodyAt r d) u (length-bodyAt r d (f .row)) in
       record {
-        size = ap (λ (x : ℕ). x / 8192) (length-written entries-lie w);
+        size = ap (λ (x : ℕ). x / 8192) (length-stored entries-lie w);
         free = g .free;
         row = ap (λ (m : Entry). m .row) entry-is;
-        others = entryAt-written-other w;
+        others = entryAt-stored-other w;
       }
 
   entries-same : entries undo' ≡ entries u
@@ -258,7 +259,7 @@ module _ (n c r e : ℕ) (body d u : List ℕ) (f : Fits n c r d) (g : Takes r e
   pub chainOf-updated-other : (t : ℕ) → (t ≡ r → ⊥) → chainOf (updatedData n c r e body d) (updatedUndo n c r e d u) t ≡ chainOf d u t
   unfolding updatedData
   chainOf-updated-other t ne =
-      chainOf-agree u undo' t (link-other taken t ne) d data' entries-same (slotAt-written-other (withSlot-written n r slot body d long) t ne)
+      chainOf-agree u undo' t (link-other taken t ne) d data' entries-same (slotAt-stored-other (withSlot-is n r slot body d long) t ne)
 
   module _ (used : slotAt r d .create ≡ 0 → ⊥) where
     -- the new slot leads to the copy
@@ -298,6 +299,6 @@ module _ (n c r e : ℕ) (body d u : List ℕ) (f : Fits n c r d) (g : Takes r e
     pub whole-updated : AllWhole d u → AllWhole (updatedData n c r e body d) (updatedUndo n c r e d u)
     unfolding updatedData
     whole-updated all =
-        whole-after d data' u undo' r (length-written slots-lie (withSlot-written n r slot body d long)) chainOf-updated-other
+        whole-after d data' u undo' r (length-stored slots-lie (withSlot-is n r slot body d long)) chainOf-updated-other
         (ap (λ (x : Chain). x .whole) (chainOf-updated-own (all r (f .row))) ∙ all r (f .row))
         all

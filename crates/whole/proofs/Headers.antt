@@ -19,14 +19,14 @@ use Rattle.little.proofs.Parts.{part-part, part-sets-below, part-sets-above, li
 use Rattle.little.proofs.Fields.{widths, holds-sets}
 use Rattle.kind.specs.declared.Kind.{Kind}
 use Rattle.kind.specs.Kind.{pages, statusKind}
-use Rattle.kind.proofs.Places.{Lie, Within, within-header, within-page, length-within}
+use Rattle.kind.proofs.Places.{Lie, Within, within-header, length-within}
 use Rattle.status.specs.declared.Status.{Status}
 use Rattle.status.specs.Status.{putStatus}
 use Rattle.page.specs.Header.{header, pageAt, txnId, checksum, itemCount, fieldIn, putField}
 use Rattle.page.specs.Count.{itemsIn, counted}
 use Rattle.page.proofs.Counts.{itemsIn-header}
 use Rattle.page.proofs.Touches.{itemsIn-few}
-use Rattle.page.proofs.Headers.{length-pageAt, pageAt-putField-same, pageAt-putField-other, fieldIn-header, header-at, header-putStatus}
+use Rattle.page.proofs.Headers.{length-pageAt, pageAt-putField-same, fieldIn-header, header-at, header-putStatus}
 use Rattle.whole.specs.Whole.{headerRight}
 
 -- ---- fields that are held
@@ -163,10 +163,6 @@ headerRight-putStatus id p n v s = rightWith-same statusKind id 0 (pageAt p s) (
 module _ (k : Kind) (lie : Lie 8192 (k .size) (k .count)) {r : ℕ} {s y : List ℕ} (w : Within 8192 (k .size) (k .count) r s y) where
   abbrev home : ℕ
   home = r / k .count
-
-  pub pageAt-recounted : (p : ℕ) → (p ≡ r / k .count → ⊥) → pageAt p (counted k (r / k .count) y) ≡ pageAt p s
-  unfolding counted pageAt
-  pageAt-recounted p ne = pageAt-putField-other itemCount home p (itemsIn k (pageAt home y)) y (omega arith) ne ∙ within-page lie w p ne
 
   pub headerRight-recounted : (id : ℕ) → k .count < 65536 → r / k .count < pages s
       → headerRight k id (pageAt (r / k .count) s) ≡ true

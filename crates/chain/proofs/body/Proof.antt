@@ -21,8 +21,8 @@ part-result-end c = search needs
 enum-known-place : tie.Need-enum-known-place
 enum-known-place c = search needs
 
-mul-if1 : tie.Need-mul-if1
-mul-if1 c = search needs
+rows-requires : tie.Need-rows-requires
+rows-requires c κs = search needs
 
 place-requires : tie.Need-place-requires
 place-requires c κs = search needs
@@ -45,7 +45,7 @@ part-result-end-2 c = search needs
 returns : tie.Need-returns
 returns c =
     let inside = c .before .before in
-    hand-slot _ _ _ _ _ (inside .before .before .before .place .given .1) (inside .if1 .taken) (c .before .place2 .ensures)
+    hand-slot _ _ _ _ _ (inside .before .before .before .place .given .1) (inside .before .rows .ensures) (inside .if1 .taken) (c .before .place2 .ensures)
 
 sub-result-3 : tie.Need-sub-result-3
 sub-result-3 c = search needs
@@ -59,8 +59,8 @@ part-result-end-3 c = search needs
 enum-known-place-2 : tie.Need-enum-known-place-2
 enum-known-place-2 c = search needs
 
-mul-if2 : tie.Need-mul-if2
-mul-if2 c = search needs
+entries-requires : tie.Need-entries-requires
+entries-requires c κs = search needs
 
 place-requires-2 : tie.Need-place-requires-2
 place-requires-2 c κs = search needs
@@ -81,12 +81,12 @@ part-result-end-4 : tie.Need-part-result-end-4
 part-result-end-4 c =
     let inside = c .before in
     let known = inside .before .before .before in
-    omega (arith, entry-inside (known .place3 .given .0 .0) (known .before .before .before .before .args .undo .now) (inside .if2 .taken))
+    omega (arith, entry-inside (known .place3 .given .0 .0) (known .before .before .before .before .args .undo .now) (omega arith))
 
 returns-2 : tie.Need-returns-2
 returns-2 c =
     let inside = c .before .before in
-    hand-copy _ _ _ _ _ (inside .before .before .before .place3 .given .1) (inside .if2 .taken) (c .before .place4 .ensures)
+    hand-copy _ _ _ _ _ (inside .before .before .before .place3 .given .1) (inside .before .entries .ensures) (inside .if2 .taken) (c .before .place4 .ensures)
 
 sub-result-5 : tie.Need-sub-result-5
 sub-result-5 c = search needs
@@ -101,10 +101,10 @@ returns-3 : tie.Need-returns-3
 returns-3 c = hand-none _ _ _ _ (c .before .enum-told .given .1)
 
 returns-4 : tie.Need-returns-4
-returns-4 c = let outside = c .before in hand-no-slot _ _ _ _ _ (outside .before .before .before .place .given .1) (outside .if1 .left)
+returns-4 c = let outside = c .before in hand-no-slot _ _ _ _ _ (outside .before .before .before .place .given .1) (outside .before .rows .ensures) (outside .if1 .left)
 
 returns-5 : tie.Need-returns-5
-returns-5 c = let outside = c .before in hand-no-copy _ _ _ _ _ (outside .before .before .before .place3 .given .1) (outside .if2 .left)
+returns-5 c = let outside = c .before in hand-no-copy _ _ _ _ _ (outside .before .before .before .place3 .given .1) (outside .before .entries .ensures) (outside .if2 .left)
 
 pub body-spec : {M : Type 1} → statement M
 body-spec =
@@ -115,7 +115,7 @@ body-spec =
     part-result-start
     part-result-end
     enum-known-place
-    mul-if1
+    rows-requires
     place-requires
     add-at
     add-result
@@ -127,7 +127,7 @@ body-spec =
     part-result-start-3
     part-result-end-3
     enum-known-place-2
-    mul-if2
+    entries-requires
     place-requires-2
     add-at-2
     add-result-2

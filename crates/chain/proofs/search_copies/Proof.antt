@@ -6,7 +6,6 @@ use mathlib.Core.Path.{_≡_, refl, sym, ap, _∙_}
 use mathlib.Core.Bool.{Bool}
 use Prim.Native.Nat.{suc, _≤_, _-_}
 use native.Mathlib.Omega.{arith}
-use Rattle.kind.specs.Kind.{entries}
 use Rattle.records.specs.declared.slot.Slot.{Slot}
 use Rattle.desk.specs.View.{View}
 use Rattle.sight.specs.Sight.{viewOf}
@@ -47,9 +46,9 @@ module _ (c : tie.At-loop Inv-loop μ-loop) where
   link = linkOf (start .args .undo .now) (start .args .row) (c .loop .ptr)
 
   -- the walk that counts answers what the definition does
-  rule : run (start .args .undo .now) (start .args .row) test (suc (entries (start .args .undo .now)) - c .loop .looked) (c .loop .looked) link
+  rule : run (start .args .undo .now) (start .args .row) test (suc (c .before .entries .result) - c .loop .looked) (c .loop .looked) link
       ≡ followRule (start .args .undo .now) (start .args .status .now) view (start .args .row) (start .args .first)
-  rule = c .loop .inv .2 ∙ sym (follow-run _ _ _ _ _)
+  rule = c .loop .inv .2 ∙ sym (follow-run _ _ _ _ _ (c .before .entries .ensures))
 
 -- where the link leads to an entry
 led : (c : tie.After-l Inv-loop μ-loop) → link (c .before .before .before) ≡ To (c .l .given .0 .0) (c .l .given .0 .1 .0)
@@ -60,8 +59,8 @@ saw : (c : tie.After-is-there Inv-loop μ-loop) {t : Bool} → c .is-there .resu
     → test (c .before .before .before .before .before .before .before .before) (c .before .before .before .before .before .l .given .0 .1 .0 .copy) ≡ t
 saw c h = there-found _ _ (c .before .before .before .before .before .l .given .0 .1 .0 .copy) (c .is-there .ensures) (c .before .stamp-of .ensures) h
 
-mul-most : tie.Need-mul-most Inv-loop μ-loop
-mul-most c = search needs
+entries-requires : tie.Need-entries-requires Inv-loop μ-loop
+entries-requires c κs = search needs
 
 loop-holds : tie.Need-loop-holds Inv-loop μ-loop
 loop-holds c = (omega arith, omega arith, run-start _ _ _ _ _ _)
@@ -81,8 +80,8 @@ stamp-of-requires c κs = search needs
 is-there-requires : tie.Need-is-there-requires Inv-loop μ-loop
 is-there-requires c κs = search needs
 
-add-t24 : tie.Need-add-t24 Inv-loop μ-loop
-add-t24 c = search needs
+add-t21 : tie.Need-add-t21 Inv-loop μ-loop
+add-t21 c = search needs
 
 add-looked : tie.Need-add-looked Inv-loop μ-loop
 add-looked c = search needs
@@ -126,14 +125,14 @@ search-copies-spec =
     (tie.spec
     Inv-loop
     μ-loop
-    mul-most
+    entries-requires
     loop-holds
     follow-requires
     enum-known-l
     ended-requires
     stamp-of-requires
     is-there-requires
-    add-t24
+    add-t21
     add-looked
     loop-less
     loop-again

@@ -16,6 +16,9 @@ Inv-loop s₀ due k pages p₀ s p = (p ≤ pages) × (s ≡ talliedTo k due p s
 abbrev μ-loop : tie.MeasureT-loop
 μ-loop s₀ due k pages p₀ s p = pages - p
 
+pages-requires : tie.Need-pages-requires Inv-loop μ-loop
+pages-requires c κs = search needs
+
 loop-holds : tie.Need-loop-holds Inv-loop μ-loop
 unfolding talliedTo
 loop-holds c = (omega arith, refl)
@@ -24,15 +27,15 @@ shared-slice-read-if1 : tie.Need-shared-slice-read-if1 Inv-loop μ-loop
 shared-slice-read-if1 c = search needs
 
 -- the area is as long as it was
-long : (c : tie.At-loop Inv-loop μ-loop) → length (c .loop .s) ≡ length (c .before .before .before .args .s .now)
+long : (c : tie.At-loop Inv-loop μ-loop) → length (c .loop .s) ≡ length (c .before .before .before .before .before .args .s .now)
 long c =
-    let start = c .before .before .before in
+    let start = c .before .before .before .before .before in
     ap length (c .loop .inv .1) ∙ length-talliedTo (start .args .k) (start .args .due .now) (c .loop .p) (start .args .s .now)
 
 recount-requires : tie.Need-recount-requires Inv-loop μ-loop
 recount-requires c κs =
     let head = c .before .before .before .before in
-    (omega (arith, long head), head .before .before .before .pre .1)
+    (omega (arith, long head), head .before .before .before .before .before .pre .1)
 
 add-p : tie.Need-add-p Inv-loop μ-loop
 add-p c = search needs
@@ -62,7 +65,7 @@ tally-spec =
     (tie.spec
     Inv-loop
     μ-loop
-    loop-holds
+    pages-requires loop-holds
     shared-slice-read-if1
     recount-requires
     add-p

@@ -19,6 +19,9 @@ Inv-loop s k n p₀ p = (p ≤ n) × (allBelow (rightAt k s) p ≡ true)
 abbrev μ-loop : tie.MeasureT-loop
 μ-loop s k n p₀ p = n - p
 
+pages-requires : tie.Need-pages-requires Inv-loop μ-loop
+pages-requires c κs = search needs
+
 loop-holds : tie.Need-loop-holds Inv-loop μ-loop
 unfolding allBelow
 loop-holds c = (omega arith, refl)
@@ -49,7 +52,7 @@ is-right-requires c κs = search needs
 
 -- what was answered of the page looked at
 told : (c : tie.After-is-right Inv-loop μ-loop)
-    → rightAt (c .before .before .before .before .before .args .k) (c .before .before .before .before .before .args .s .now) (c .before .before .before .loop .p)
+    → rightAt (c .before .before .before .before .before .before .args .k) (c .before .before .before .before .before .before .args .s .now) (c .before .before .before .loop .p)
     ≡ c .is-right .result
 told c = rightAt-lent _ _ _ (c .is-right .ensures)
 
@@ -58,7 +61,7 @@ unfolding areaRight
 returns c =
     let asked = c .before in
     let head = asked .before .before .before in
-    let start = head .before .before in
+    let start = head .before .before .before in
     sym (all-fails (rightAt (start .args .k) (start .args .s .now)) (length (start .args .s .now) / 8192) (head .loop .p) (omega arith) (told asked ∙ not-true _ (c .if1 .taken)))
 
 add-p : tie.Need-add-p Inv-loop μ-loop
@@ -71,14 +74,14 @@ loop-again : tie.Need-loop-again Inv-loop μ-loop
 loop-again c =
     let asked = c .before in
     let head = asked .before .before .before in
-    let start = head .before .before in
+    let start = head .before .before .before in
     (omega arith, all-more (rightAt (start .args .k) (start .args .s .now)) (head .loop .p) (head .loop .inv .1) (told asked ∙ not-false _ (c .if1 .left)))
 
 returns-2 : tie.Need-returns-2 Inv-loop μ-loop
 unfolding areaRight
 returns-2 c =
     let head = c .before in
-    let s = head .before .before .args .s .now in
+    let s = head .before .before .before .args .s .now in
     let e : head .loop .p ≡ length s / 8192 = omega arith in
     rw (← e) (sym (head .loop .inv .1))
 
@@ -88,7 +91,7 @@ area-right-spec =
     (tie.spec
     Inv-loop
     μ-loop
-    loop-holds
+    pages-requires loop-holds
     mul-at
     add-end
     sub-is-right

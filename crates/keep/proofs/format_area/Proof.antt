@@ -15,6 +15,9 @@ Inv-loop s₀ k n p₀ s p = (p ≤ n) × (length s ≡ length s₀) × (take (p
 abbrev μ-loop : tie.MeasureT-loop
 μ-loop s₀ k n p₀ s p = n - p
 
+pages-requires : tie.Need-pages-requires Inv-loop μ-loop
+pages-requires c κs = search needs
+
 loop-holds : tie.Need-loop-holds Inv-loop μ-loop
 unfolding freshArea
 loop-holds c = (omega arith, refl, refl)
@@ -32,7 +35,7 @@ loop-again : tie.Need-loop-again Inv-loop μ-loop
 loop-again c =
     let called = c .before .before in
     let head = called .before .before .before in
-    let start = head .before .before in
+    let start = head .before .before .before .before in
     (omega arith, omega arith, freshArea-more (start .args .k) (head .loop .p) (head .loop .s) (omega arith) (head .loop .inv .2) (called .fresh-page .ensures))
 
 same-length : tie.Need-same-length Inv-loop μ-loop
@@ -41,7 +44,7 @@ same-length c = search needs
 returns : tie.Need-returns Inv-loop μ-loop
 returns c =
     let head = c .before in
-    let start = head .before .before in
+    let start = head .before .before .before .before in
     freshArea-all (start .args .k) _ (head .loop .p) (head .loop .s) (omega arith) (omega arith) (head .loop .inv .2)
 
 pub format-area-spec : {M : Type 1} → statement M
@@ -50,7 +53,7 @@ format-area-spec =
     (tie.spec
     Inv-loop
     μ-loop
-    loop-holds
+    pages-requires loop-holds
     fresh-page-requires
     add-p
     loop-less

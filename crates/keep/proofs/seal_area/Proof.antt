@@ -15,6 +15,9 @@ Inv-loop s₀ n p₀ s p = (p ≤ n) × (length s ≡ length s₀) × (s ≡ sea
 abbrev μ-loop : tie.MeasureT-loop
 μ-loop s₀ n p₀ s p = n - p
 
+pages-requires : tie.Need-pages-requires Inv-loop μ-loop
+pages-requires c κs = search needs
+
 loop-holds : tie.Need-loop-holds Inv-loop μ-loop
 unfolding sealedArea
 loop-holds c = (omega arith, refl, refl)
@@ -32,7 +35,7 @@ loop-again : tie.Need-loop-again Inv-loop μ-loop
 loop-again c =
     let called = c .before .before in
     let head = called .before .before .before in
-    let start = head .before .before in
+    let start = head .before .before .before .before in
     (omega arith, omega arith, sealedArea-more (head .loop .p) (start .args .s .now) (head .loop .s) (head .loop .inv .2) (called .seal-page .ensures))
 
 same-length : tie.Need-same-length Inv-loop μ-loop
@@ -41,7 +44,7 @@ same-length c = search needs
 returns : tie.Need-returns Inv-loop μ-loop
 returns c =
     let head = c .before in
-    let s = head .before .before .args .s .now in
+    let s = head .before .before .before .before .args .s .now in
     let e : head .loop .p ≡ length s / 8192 = omega arith in
     rw (← e) (head .loop .inv .2)
 
@@ -51,7 +54,7 @@ seal-area-spec =
     (tie.spec
     Inv-loop
     μ-loop
-    loop-holds
+    pages-requires loop-holds
     seal-page-requires
     add-p
     loop-less

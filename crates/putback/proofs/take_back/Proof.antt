@@ -16,7 +16,7 @@ use Rattle.chain.specs.Chain.{chainFrom, linkOf}
 use Rattle.chain.proofs.Link.{enum}
 use Rattle.chain.proofs.Links.{link-real}
 use Rattle.putback.specs.PutBack.{takenBack}
-use Rattle.putback.proofs.PutBacks.{take-on, take-put, take-out, take-end}
+use Rattle.putback.proofs.PutBacks.{take-start, take-on, take-put, take-out, take-end}
 use Rattle.putback.proofs.take_back.Statement.{statement}
 use Rattle.putback.proofs.take_back.Tie as tie
 
@@ -37,7 +37,7 @@ module _ (c : tie.After-l Inv-loop μ-loop) where
   head = c .before .before .before .before .before
 
   abbrev row : ℕ
-  row = head .before .before .before .before .args .r
+  row = head .before .before .before .before .before .args .r
 
   led : linkOf (head .loop .undo) row (head .loop .ptr) ≡ To (c .l .given .0 .0) (c .l .given .0 .1 .0)
   led = sym (c .before .before .follow .ensures) ∙ c .l .given .1
@@ -48,11 +48,11 @@ module _ (c : tie.After-l Inv-loop μ-loop) where
   inside : c .l .given .0 .0 < entries (head .loop .undo)
   inside = link-real _ _ _ _ _ led .inside
 
-mul-left : tie.Need-mul-left Inv-loop μ-loop
-mul-left c = search needs
+entries-requires : tie.Need-entries-requires Inv-loop μ-loop
+entries-requires c κs = search needs
 
 loop-holds : tie.Need-loop-holds Inv-loop μ-loop
-loop-holds c = search needs
+loop-holds c = (refl, refl, take-start _ _ _ _ _ _ (c .entries .ensures))
 
 follow-requires : tie.Need-follow-requires Inv-loop μ-loop
 follow-requires c κs = search needs
@@ -66,7 +66,7 @@ is-own-requires c κs = search needs
 put-back-requires : tie.Need-put-back-requires Inv-loop μ-loop
 put-back-requires c κs =
     let l = c .before .before .before .before .before .before in
-    let start = head l .before .before .before .before in
+    let start = head l .before .before .before .before .before in
     (omega (arith, start .pre, head l .loop .inv .0), inside l)
 
 same-length : tie.Need-same-length Inv-loop μ-loop
@@ -130,7 +130,7 @@ take-back-spec =
     (tie.spec
     Inv-loop
     μ-loop
-    mul-left
+    entries-requires
     loop-holds
     follow-requires
     enum-known-l

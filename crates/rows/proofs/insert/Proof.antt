@@ -39,8 +39,8 @@ returns-2 c = does-case (insert-5 _ _ _ _ _ _ _ (admitted (c .before .before)) (
 lowest-empty-requires : tie.Need-lowest-empty-requires
 lowest-empty-requires c κs = let few = admits-lent _ _ _ _ _ _ (admitted (c .before .before)) .inData .few in omega (arith, few)
 
-mul-if2 : tie.Need-mul-if2
-mul-if2 c = let few = admits-lent _ _ _ _ _ _ (admitted (c .before .before .before .before)) .inData .few in search (needs, few)
+rows-requires : tie.Need-rows-requires
+rows-requires c κs = search needs
 
 unmade-requires-3 : tie.Need-unmade-requires-3
 unmade-requires-3 c κs = search needs
@@ -49,13 +49,13 @@ same-length : tie.Need-same-length
 same-length c = search needs
 
 returns-3 : tie.Need-returns-3
-returns-3 c = does-case (insert-11 _ _ _ _ _ _ _ (admitted (c .before .before .before .before .before .before)) (c .before .before .before .before .before .if1 .left) (c .before .before .before .lowest-empty .ensures) (c .before .if2 .taken)) (c .unmade3 .ensures) refl
+returns-3 c = does-case (insert-11 _ _ _ _ _ _ _ (admitted (c .before .before .before .before .before .before .before)) (c .before .before .before .before .before .before .if1 .left) (c .before .before .before .before .lowest-empty .ensures) (c .before .before .rows .ensures) (c .before .if2 .taken)) (c .unmade3 .ensures) refl
 
 statement-requires : tie.Need-statement-requires
-statement-requires c κs = (search needs, admits-place _ _ _ _ _ _ (admitted (c .before .before .before .before .before .before .before)))
+statement-requires c κs = (search needs, admits-place _ _ _ _ _ _ (admitted (c .before .before .before .before .before .before .before .before)))
 
 insert-at-requires : tie.Need-insert-at-requires
-insert-at-requires c κs = (insert-inside _ (c .before .before .before .before .before .lowest-empty .ensures) (c .before .before .before .if2 .left), c .before .before .before .before .before .before .before .if1 .left)
+insert-at-requires c κs = (insert-inside _ (c .before .before .before .before .before .before .lowest-empty .ensures) (c .before .before .before .before .rows .ensures) (c .before .before .before .if2 .left), c .before .before .before .before .before .before .before .before .if1 .left)
 
 same-length-2 : tie.Need-same-length-2
 same-length-2 c = search needs
@@ -63,7 +63,7 @@ same-length-2 c = search needs
 returns-4 : tie.Need-returns-4
 returns-4 c =
     does-case
-    (insert-0 _ _ _ _ _ _ _ (admitted (c .before .before .before .before .before .before .before .before .before .before .before)) (c .before .before .before .before .before .before .before .before .before .before .if1 .left) (c .before .before .before .before .before .before .before .before .lowest-empty .ensures) (c .before .before .before .before .before .before .if2 .left) (c .before .before .before .statement .ensures) (c .before .before .insert-at .ensures))
+    (insert-0 _ _ _ _ _ _ _ (admitted (c .before .before .before .before .before .before .before .before .before .before .before .before)) (c .before .before .before .before .before .before .before .before .before .before .before .if1 .left) (c .before .before .before .before .before .before .before .before .before .lowest-empty .ensures) (c .before .before .before .before .before .before .before .rows .ensures) (c .before .before .before .before .before .before .if2 .left) (c .before .before .before .statement .ensures) (c .before .before .insert-at .ensures))
     refl
     refl
 
@@ -79,7 +79,7 @@ insert-spec =
     unmade-requires-2
     returns-2
     lowest-empty-requires
-    mul-if2
+    rows-requires
     unmade-requires-3
     same-length
     returns-3

@@ -67,8 +67,8 @@ returns-3 c =
 lowest-free-requires : tie.Need-lowest-free-requires
 lowest-free-requires c κs = let few = lent (c .before) .inUndo .few in omega (arith, few)
 
-mul-if3 : tie.Need-mul-if3
-mul-if3 c = let few = lent (c .before .before .before) .inUndo .few in search (needs, few)
+entries-requires : tie.Need-entries-requires
+entries-requires c κs = search needs
 
 same-length-3 : tie.Need-same-length-3
 same-length-3 c = search needs
@@ -79,16 +79,16 @@ same-length-4 c = search needs
 returns-4 : tie.Need-returns-4
 returns-4 c =
     does-case
-    (update-11 _ _ _ _ _ _ _ _ (admitted (c .before .before .before .before .before .before .before .before .before .before .before .before .before .before)) (c .before .before .before .before .before .before .before .before .before .before .before .before .before .if1 .left) (c .before .before .before .before .before .before .before .before .before .before .before .statement .ensures) (c .before .before .before .before .before .before .before .before .before .list .ensures) (c .before .before .before .before .before .before .may-write .ensures) (sym (c .before .before .before .before .before .code .ensures) ∙ c .before .before .before .before .if2 .left) (c .before .before .lowest-free .ensures) (c .if3 .taken))
+    (update-11 _ _ _ _ _ _ _ _ (admitted (c .before .before .before .before .before .before .before .before .before .before .before .before .before .before .before)) (c .before .before .before .before .before .before .before .before .before .before .before .before .before .before .if1 .left) (c .before .before .before .before .before .before .before .before .before .before .before .before .statement .ensures) (c .before .before .before .before .before .before .before .before .before .before .list .ensures) (c .before .before .before .before .before .before .before .may-write .ensures) (sym (c .before .before .before .before .before .before .code .ensures) ∙ c .before .before .before .before .before .if2 .left) (c .before .before .before .lowest-free .ensures) (c .before .entries .ensures) (c .if3 .taken))
     refl
     refl
 
 update-at-requires : tie.Need-update-at-requires
 update-at-requires c κs =
-    let fits = lent (c .before .before .before .before .before .before) in
-    let inside = write-inside _ _ _ _ _ (c .before .before .before .before .before .before .before .before .may-write .ensures) (sym (c .before .before .before .before .before .before .before .code .ensures) ∙ c .before .before .before .before .before .before .if2 .left) in
-    let room = update-inside _ (c .before .before .before .before .lowest-free .ensures) (c .before .before .if3 .left) in
-    (inside, small-number (fits .inData .few) (omega arith) inside, room, small-number (fits .inUndo .few) (omega arith) room, c .before .before .before .before .before .before .before .before .before .before .before .before .before .before .before .if1 .left)
+    let fits = lent (c .before .before .before .before .before .before .before) in
+    let inside = write-inside _ _ _ _ _ (c .before .before .before .before .before .before .before .before .before .may-write .ensures) (sym (c .before .before .before .before .before .before .before .before .code .ensures) ∙ c .before .before .before .before .before .before .before .if2 .left) in
+    let room = update-inside _ (c .before .before .before .before .before .lowest-free .ensures) (c .before .before .before .entries .ensures) (c .before .before .if3 .left) in
+    (inside, small-number (fits .inData .few) (omega arith) inside, room, small-number (fits .inUndo .few) (omega arith) room, c .before .before .before .before .before .before .before .before .before .before .before .before .before .before .before .before .if1 .left)
 
 same-length-5 : tie.Need-same-length-5
 same-length-5 c = search needs
@@ -99,7 +99,7 @@ same-length-6 c = search needs
 returns-5 : tie.Need-returns-5
 returns-5 c =
     does-case
-    (update-0 _ _ _ _ _ _ _ _ (admitted (c .before .before .before .before .before .before .before .before .before .before .before .before .before .before .before .before .before .before .before .before .before)) (c .before .before .before .before .before .before .before .before .before .before .before .before .before .before .before .before .before .before .before .before .if1 .left) (c .before .before .before .before .before .before .before .before .before .before .before .before .before .before .before .before .before .before .statement .ensures) (c .before .before .before .before .before .before .before .before .before .before .before .before .before .before .before .before .list .ensures) (c .before .before .before .before .before .before .before .before .before .before .before .before .before .may-write .ensures) (sym (c .before .before .before .before .before .before .before .before .before .before .before .before .code .ensures) ∙ c .before .before .before .before .before .before .before .before .before .before .before .if2 .left) (c .before .before .before .before .before .before .before .before .before .lowest-free .ensures) (c .before .before .before .before .before .before .before .if3 .left))
+    (update-0 _ _ _ _ _ _ _ _ (admitted (c .before .before .before .before .before .before .before .before .before .before .before .before .before .before .before .before .before .before .before .before .before .before)) (c .before .before .before .before .before .before .before .before .before .before .before .before .before .before .before .before .before .before .before .before .before .if1 .left) (c .before .before .before .before .before .before .before .before .before .before .before .before .before .before .before .before .before .before .before .statement .ensures) (c .before .before .before .before .before .before .before .before .before .before .before .before .before .before .before .before .before .list .ensures) (c .before .before .before .before .before .before .before .before .before .before .before .before .before .before .may-write .ensures) (sym (c .before .before .before .before .before .before .before .before .before .before .before .before .before .code .ensures) ∙ c .before .before .before .before .before .before .before .before .before .before .before .before .if2 .left) (c .before .before .before .before .before .before .before .before .before .before .lowest-free .ensures) (c .before .before .before .before .before .before .before .before .entries .ensures) (c .before .before .before .before .before .before .before .if3 .left))
     refl
     (areas-eq (c .before .before .before .before .update-at .ensures .1) (c .before .before .before .before .update-at .ensures .0) refl)
 
@@ -120,7 +120,7 @@ update-spec =
     same-length-2
     returns-3
     lowest-free-requires
-    mul-if3
+    entries-requires
     same-length-3
     same-length-4
     returns-4

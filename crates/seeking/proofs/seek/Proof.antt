@@ -7,11 +7,11 @@ use Rattle.seeking.proofs.Seekings.{seek-outside, seek-none, seek-at}
 use Rattle.seeking.proofs.seek.Statement.{statement}
 use Rattle.seeking.proofs.seek.Tie as tie
 
-mul-if1 : tie.Need-mul-if1
-mul-if1 c = search needs
+rows-requires : tie.Need-rows-requires
+rows-requires c κs = search needs
 
 returns : tie.Need-returns
-returns c = sym (seek-outside _ _ _ _ _ (c .if1 .taken))
+returns c = sym (seek-outside _ _ _ _ _ (c .before .rows .ensures) (c .if1 .taken))
 
 search-requires : tie.Need-search-requires
 search-requires c κs = search needs
@@ -25,15 +25,15 @@ none-found-requires c κs = search needs
 returns-2 : tie.Need-returns-2
 returns-2 c =
     let walked = c .before .before in
-    seek-none _ _ _ _ _ (walked .before .if1 .left) (tagOf (declared enum)) (λ place n. refl) (walked .search .result) (c .before .match .keys2) (walked .search .ensures) (c .none-found .ensures)
+    seek-none _ _ _ _ _ (walked .before .before .rows .ensures) (walked .before .if1 .left) (tagOf (declared enum)) (λ place n. refl) (walked .search .result) (c .before .match .keys2) (walked .search .ensures) (c .none-found .ensures)
 
 returns-3 : tie.Need-returns-3
 returns-3 c =
     let found = c .before in
     let walked = found .before .before in
-    seek-at _ _ _ _ _ (walked .before .if1 .left) _ _ (walked .search .ensures) (found .w .given .1)
+    seek-at _ _ _ _ _ (walked .before .before .rows .ensures) (walked .before .if1 .left) _ _ (walked .search .ensures) (found .w .given .1)
 
 pub seek-spec : {M : Type 1} → statement M
 seek-spec =
     tie.close
-    (tie.spec mul-if1 returns search-requires enum-known-w none-found-requires returns-2 returns-3)
+    (tie.spec rows-requires returns search-requires enum-known-w none-found-requires returns-2 returns-3)

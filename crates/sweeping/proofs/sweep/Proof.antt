@@ -12,8 +12,9 @@ use Rattle.words.specs.Words.{deskIn}
 use Rattle.kind.specs.Kind.{rows, lengthsOk}
 use Rattle.kind.specs.Areas.{both}
 use Rattle.kind.proofs.Lengths.{all-lent}
+use Rattle.strands.specs.Strands.{RowsIn}
 use Rattle.sweeping.specs.Sweeping.{treated, allWhole}
-use Rattle.sweeping.proofs.Treats.{Inside, inside}
+use Rattle.sweeping.proofs.Treats.{inside}
 use Rattle.sweeping.proofs.Calls.{treats-quota, treats-rest, treats-few, sweep-1, sweep-2, sweep-5, sweep-6, sweep-0}
 use borrow.Author.Needs.{needs}
 use Rattle.sweeping.proofs.sweep.Statement.{statement}
@@ -32,20 +33,20 @@ fine c = sym (c .before .is-sound .ensures) ∙ not-false _ (c .if2 .left)
 -- how many rows are treated
 module _ (c : tie.Joined4) where
   abbrev start : tie.Start
-  start = c .before .before .before .before .before .before .before .before .before .before .before
+  start = c .before .before .before .before .before .before .before .before .before .before .before .before
 
   treats : c .if4 .n ≡ treated (start .args .«data» .now) (start .args .first) (start .args .quota)
-  treats = ⊎-elim (λ x. x .1 ∙ treats-quota _ _ _ (x .0 .taken)) (λ x. x .1 ∙ treats-rest _ _ _ (x .0 .left)) (c .if4 .came)
+  treats = ⊎-elim (λ x. x .1 ∙ treats-quota _ _ _ (c .before .before .rows .ensures) (x .0 .taken)) (λ x. x .1 ∙ treats-rest _ _ _ (c .before .before .rows .ensures) (x .0 .left)) (c .if4 .came)
 
   few : start .args .first + c .if4 .n ≤ rows (start .args .«data» .now)
-  few = omega (arith, treats, treats-few (start .args .«data» .now) (start .args .first) (start .args .quota) (c .before .if3 .left))
+  few = omega (arith, treats, treats-few (start .args .«data» .now) (start .args .first) (start .args .quota) (omega arith))
 
   -- they lie in the area lent
-  lent : Inside (start .args .first) (c .if4 .n) (both (start .args .«data» .now) (start .args .undo .now))
+  lent : RowsIn (start .args .first + c .if4 .n) (both (start .args .«data» .now) (start .args .undo .now))
   lent =
       inside (start .args .«data» .now) (start .args .undo .now) (start .args .first) (c .if4 .n) few
-      (λ i. omega (arith, c .before .before .before .before .before .before .before .before .before .before .slice-known .given i))
-      (λ i. omega (arith, c .before .before .before .before .before .before .before .before .before .slice-known2 .given i))
+      (λ i. omega (arith, c .before .before .before .before .before .before .before .before .before .before .before .slice-known .given i))
+      (λ i. omega (arith, c .before .before .before .before .before .before .before .before .before .before .slice-known2 .given i))
 
 -- they have no break
 whole : (c : tie.Else5)
@@ -71,14 +72,17 @@ unswept-requires-2 c κs = search needs
 returns-2 : tie.Need-returns-2
 returns-2 c = does-case (sweep-2 _ _ _ _ _ _ (good (c .before .before .before .before)) (sym (c .before .before .is-sound .ensures) ∙ not-true _ (c .before .if2 .taken))) (c .unswept2 .ensures) refl
 
-mul-rows : tie.Need-mul-rows
-mul-rows c = search needs
+rows-requires : tie.Need-rows-requires
+rows-requires c κs = search needs
 
 unswept-requires-3 : tie.Need-unswept-requires-3
 unswept-requires-3 c κs = search needs
 
+same-length : tie.Need-same-length
+same-length c = search needs
+
 returns-3 : tie.Need-returns-3
-returns-3 c = does-case (sweep-5 _ _ _ _ _ _ (good (c .before .before .before .before .before .before)) (fine (c .before .before .before)) (c .before .if3 .taken)) (c .unswept3 .ensures) refl
+returns-3 c = does-case (sweep-5 _ _ _ _ _ _ (good (c .before .before .before .before .before .before .before)) (fine (c .before .before .before .before)) (c .before .before .rows .ensures) (c .before .if3 .taken)) (c .unswept3 .ensures) refl
 
 are-whole-requires : tie.Need-are-whole-requires
 are-whole-requires c κs = few (c .before .before)
@@ -86,16 +90,16 @@ are-whole-requires c κs = few (c .before .before)
 unswept-requires-4 : tie.Need-unswept-requires-4
 unswept-requires-4 c κs = search needs
 
-same-length : tie.Need-same-length
-same-length c = search needs
-
 same-length-2 : tie.Need-same-length-2
 same-length-2 c = search needs
+
+same-length-3 : tie.Need-same-length-3
+same-length-3 c = search needs
 
 returns-4 : tie.Need-returns-4
 returns-4 c =
     does-case
-    (sweep-6 _ _ _ _ _ _ (good (c .before .before .before .before .before .before .before .before .before .before .before)) (fine (c .before .before .before .before .before .before .before .before)) (c .before .before .before .before .before .before .if3 .left) (treats (c .before .before .before .before .before)) (sym (c .before .before .are-whole .ensures) ∙ not-true _ (c .before .if5 .taken)))
+    (sweep-6 _ _ _ _ _ _ (good (c .before .before .before .before .before .before .before .before .before .before .before .before)) (fine (c .before .before .before .before .before .before .before .before .before)) (c .before .before .before .before .before .before .before .rows .ensures) (c .before .before .before .before .before .before .if3 .left) (treats (c .before .before .before .before .before)) (sym (c .before .before .are-whole .ensures) ∙ not-true _ (c .before .if5 .taken)))
     (c .unswept4 .ensures)
     refl
 
@@ -106,26 +110,26 @@ cast-mark : tie.Need-cast-mark
 cast-mark c = search needs
 
 sweep-rows-requires : tie.Need-sweep-rows-requires
-sweep-rows-requires c κs = (few (c .before .before .before .before .before .before .before .before), good (c .before .before .before .before .before .before .before .before .before .before .before .before .before .before), whole (c .before .before .before .before))
+sweep-rows-requires c κs = (few (c .before .before .before .before .before .before .before .before), good (c .before .before .before .before .before .before .before .before .before .before .before .before .before .before .before), whole (c .before .before .before .before))
 
-add-t14 : tie.Need-add-t14
-add-t14 c =
+add-t12 : tie.Need-add-t12
+add-t12 c =
     let joined = c .before .before .before .before .before .before .before .before .before .before .before .before .before .before in
     let pages : length (start joined .args .«data» .now) / 8192 ≤ 64
-    = all-lent _ (length (start joined .args .undo .now)) (length (start joined .args .status .now)) (good (c .before .before .before .before .before .before .before .before .before .before .before .before .before .before .before .before .before .before .before .before)) .inData .few in
+    = all-lent _ (length (start joined .args .undo .now)) (length (start joined .args .status .now)) (good (c .before .before .before .before .before .before .before .before .before .before .before .before .before .before .before .before .before .before .before .before .before)) .inData .few in
     omega (arith, few joined, pages)
-
-same-length-3 : tie.Need-same-length-3
-same-length-3 c = search needs
 
 same-length-4 : tie.Need-same-length-4
 same-length-4 c = search needs
+
+same-length-5 : tie.Need-same-length-5
+same-length-5 c = search needs
 
 returns-5 : tie.Need-returns-5
 returns-5 c =
     let joined = c .before .before .before .before .before .before .before .before .before .before .before .before .before .before in
     does-case
-    (sweep-0 _ _ _ _ _ _ (good (c .before .before .before .before .before .before .before .before .before .before .before .before .before .before .before .before .before .before .before .before)) (fine (c .before .before .before .before .before .before .before .before .before .before .before .before .before .before .before .before .before)) (c .before .before .before .before .before .before .before .before .before .before .before .before .before .before .before .if3 .left) (treats joined) (whole (c .before .before .before .before .before .before .before .before .before .before))
+    (sweep-0 _ _ _ _ _ _ (good (c .before .before .before .before .before .before .before .before .before .before .before .before .before .before .before .before .before .before .before .before .before)) (fine (c .before .before .before .before .before .before .before .before .before .before .before .before .before .before .before .before .before .before)) (c .before .before .before .before .before .before .before .before .before .before .before .before .before .before .before .before .rows .ensures) (c .before .before .before .before .before .before .before .before .before .before .before .before .before .before .before .if3 .left) (treats joined) (whole (c .before .before .before .before .before .before .before .before .before .before))
     (lent joined) (c .before .before .before .before .before .before .before .before .mark .ensures) (c .before .before .before .before .before .sweep-rows .ensures .0) (c .before .before .before .before .before .sweep-rows .ensures .1))
     refl
     refl
@@ -140,18 +144,19 @@ sweep-spec =
     is-sound-requires
     unswept-requires-2
     returns-2
-    mul-rows
+    rows-requires
     unswept-requires-3
+    same-length
     returns-3
     are-whole-requires
     unswept-requires-4
-    same-length
     same-length-2
+    same-length-3
     returns-4
     mark-requires
     cast-mark
     sweep-rows-requires
-    add-t14
-    same-length-3
+    add-t12
     same-length-4
+    same-length-5
     returns-5)

@@ -2,7 +2,7 @@
 -- the areas tallied; that the rows to come still have no break is the independence of rows. Assumes nothing.
 use borrow.Author.Needs.{needs}
 use mathlib.Core.Path.{_≡_, refl}
-use Prim.Native.Nat.{_≤_, _-_, _*_, _/_}
+use Prim.Native.Nat.{_+_, _≤_, _-_, _*_, _/_}
 use native.Mathlib.Omega.{arith}
 use lib.ListN.{length}
 use Rattle.kind.specs.Kind.{undoKind}
@@ -10,7 +10,8 @@ use Rattle.kind.specs.Areas.{both}
 use Rattle.kind.proofs.Lengths.{all-lent, status-length}
 use Rattle.freeing.specs.Tally.{tallied, talliedBoth}
 use Rattle.freeing.proofs.Tallies.{length-tallied}
-use Rattle.sweeping.proofs.Treats.{Inside, Upto, inside, ready, upto-start, upto-whole, upto-next, upto-end, gone-few}
+use Rattle.strands.specs.Strands.{RowsIn}
+use Rattle.sweeping.proofs.Treats.{Upto, inside, ready, upto-start, upto-whole, upto-next, upto-end, gone-few}
 use Rattle.sweeping.proofs.Dues.{inside-tallied}
 use Rattle.sweeping.proofs.sweep_uncounted.Statement.{statement}
 use Rattle.sweeping.proofs.sweep_uncounted.Tie as tie
@@ -39,7 +40,7 @@ module _ (c : tie.Start Inv-loop μ-loop) where
 -- the rows lie in the area lent
 lent : (c : tie.After-shared-slice-known Inv-loop μ-loop)
     → let start = c .before .before .before .before .before in
-    Inside (start .args .first) (start .args .n) (both (start .args .«data» .now) (start .args .undo .now))
+    RowsIn (start .args .first + start .args .n) (both (start .args .«data» .now) (start .args .undo .now))
 lent c =
     let start = c .before .before .before .before .before in
     inside (start .args .«data» .now) (start .args .undo .now) (start .args .first) (start .args .n) (start .pre .0)

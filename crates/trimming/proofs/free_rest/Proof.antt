@@ -28,14 +28,14 @@ abbrev μ-loop : tie.MeasureT-loop
 
 -- the area tallied is as long as it was lent
 long : (c : tie.At-loop Inv-loop μ-loop)
-    → let start = c .before .before .before .before in
+    → let start = c .before .before .before .before .before in
     length (tallied undoKind (start .args .due .now) (start .args .undo .now)) ≡ length (start .args .undo .now)
 long c =
-    let start = c .before .before .before .before in
+    let start = c .before .before .before .before .before in
     length-tallied undoKind (start .args .due .now) (start .args .undo .now)
 
-mul-most : tie.Need-mul-most Inv-loop μ-loop
-mul-most c = search needs
+entries-requires : tie.Need-entries-requires Inv-loop μ-loop
+entries-requires c κs = search needs
 
 loop-holds : tie.Need-loop-holds Inv-loop μ-loop
 loop-holds c = (omega arith, refl, refl, freed-start _ _ _ _)
@@ -98,7 +98,7 @@ free-rest-spec =
     (tie.spec
     Inv-loop
     μ-loop
-    mul-most
+    entries-requires
     loop-holds
     follow-requires
     enum-known-l

@@ -4,6 +4,7 @@ use borrow.Author.Needs.{needs}
 use mathlib.Core.Path.{_≡_, refl, sym, _∙_}
 use Prim.Native.Nat.{suc, _≤_, _-_}
 use native.Mathlib.Omega.{arith}
+use Rattle.kind.specs.Kind.{entries}
 use Rattle.chain.specs.Chain.{linkOf}
 use Rattle.chain.specs.declared.Link.the-variants.{To}
 use Rattle.chain.proofs.Chains.{run, run-start, run-on}
@@ -15,7 +16,7 @@ abbrev Inv-loop : tie.InvT-loop
 Inv-loop «data» undo r most ptr₀ looked₀ ptr looked =
     (1 ≤ looked)
     × (looked ≤ suc most)
-    × (run undo r never (suc most - looked) looked (linkOf undo r ptr) ≡ run undo r never most 1 (linkOf undo r ptr₀))
+    × (run undo r never (suc (entries undo) - looked) looked (linkOf undo r ptr) ≡ run undo r never (entries undo) 1 (linkOf undo r ptr₀))
 
 abbrev μ-loop : tie.MeasureT-loop
 μ-loop «data» undo r most ptr₀ looked₀ ptr looked = suc most - looked
@@ -33,8 +34,8 @@ read-slot-requires c κs = search needs
 returns : tie.Need-returns Inv-loop μ-loop
 returns c = whole-empty _ _ _ (c .before .before .read-slot .ensures) (c .if1 .taken)
 
-mul-most : tie.Need-mul-most Inv-loop μ-loop
-mul-most c = search needs
+entries-requires : tie.Need-entries-requires Inv-loop μ-loop
+entries-requires c κs = search needs
 
 loop-holds : tie.Need-loop-holds Inv-loop μ-loop
 loop-holds c = (omega arith, omega arith, run-start _ _ _ _ _ _)
@@ -92,7 +93,7 @@ is-whole-spec =
     μ-loop
     read-slot-requires
     returns
-    mul-most
+    entries-requires
     loop-holds
     follow-requires
     enum-told

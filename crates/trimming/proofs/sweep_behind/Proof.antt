@@ -37,12 +37,12 @@ module _ (c : tie.At-loop Inv-loop μ-loop) where
   long-undo : length (tallied undoKind (c .loop .undo-due) (c .loop .undo)) ≡ length (c .loop .undo)
   long-undo = length-tallied undoKind (c .loop .undo-due) (c .loop .undo)
 
-mul-left : tie.Need-mul-left Inv-loop μ-loop
-mul-left c = search needs
+entries-requires : tie.Need-entries-requires Inv-loop μ-loop
+entries-requires c κs = search needs
 
 loop-holds : tie.Need-loop-holds Inv-loop μ-loop
 loop-holds c =
-    let start = c .before .before .before .before .before .before in
+    let start = c .before .before .before .before .before .before .before in
     let data-long = length-tallied dataKind (start .args .data-due .now) (start .args .«data» .now) in
     let undo-long = length-tallied undoKind (start .args .undo-due .now) (start .args .undo .now) in (
       refl,
@@ -164,7 +164,7 @@ sweep-behind-spec =
     (tie.spec
     Inv-loop
     μ-loop
-    mul-left
+    entries-requires
     loop-holds
     follow-requires
     enum-known-l

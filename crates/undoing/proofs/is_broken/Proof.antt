@@ -21,7 +21,7 @@ abbrev Inv-loop : tie.InvT-loop
 Inv-loop «data» undo number k rows most r ptr₀ looked₀ ptr looked =
     (1 ≤ looked)
     × (looked ≤ suc most)
-    × (isBroken (walked number k undo r most looked (linkOf undo r ptr)) ≡ brokenRow number k «data» undo r)
+    × (isBroken (walked number k undo r (entries undo) looked (linkOf undo r ptr)) ≡ brokenRow number k «data» undo r)
 
 abbrev μ-loop : tie.MeasureT-loop
 μ-loop «data» undo number k rows most r ptr₀ looked₀ ptr looked = suc most - looked
@@ -33,7 +33,7 @@ abbrev μ-rows : tie.MeasureT-rows
 μ-rows «data» undo number k rows most r₀ r = rows - r
 
 -- an area is so short that its entries can be counted
-countable : (c : tie.After-struct-known2 Inv-loop μ-loop Inv-rows μ-rows) → entries (c .before .before .before .before .args .undo .now) + 1 < 2 ^ 64
+countable : (c : tie.After-entries Inv-loop μ-loop Inv-rows μ-rows) → entries (c .before .before .before .before .args .undo .now) + 1 < 2 ^ 64
 countable c = search needs
 
 -- ---- the answer
@@ -44,13 +44,13 @@ met : (c : tie.After-is-own Inv-loop μ-loop Inv-rows μ-rows)
     let start = head .before .before .before .before .before in
     brokenRow (start .args .number) (start .args .k) (start .args .«data» .now) (start .args .undo .now) (head .rows .r) ≡ true
     → true ≡ someBroken (start .args .number) (start .args .k) (start .args .«data» .now) (start .args .undo .now)
-met c h = one-broken _ _ _ _ _ (c .before .before .if1 .left) h
+met c h = one-broken _ _ _ _ _ (omega arith) h
 
-mul-rows : tie.Need-mul-rows Inv-loop μ-loop Inv-rows μ-rows
-mul-rows c = search needs
+rows-requires : tie.Need-rows-requires Inv-loop μ-loop Inv-rows μ-rows
+rows-requires c κs = search needs
 
-mul-most : tie.Need-mul-most Inv-loop μ-loop Inv-rows μ-rows
-mul-most c = search needs
+entries-requires : tie.Need-entries-requires Inv-loop μ-loop Inv-rows μ-rows
+entries-requires c κs = search needs
 
 rows-holds : tie.Need-rows-holds Inv-loop μ-loop Inv-rows μ-rows
 rows-holds c = (omega arith, none-looked _ _ _ _)
@@ -96,10 +96,11 @@ loop-again : tie.Need-loop-again Inv-loop μ-loop Inv-rows μ-rows
 loop-again c =
     let asked = c .before in
     let l = asked .before .before .before .before in
-    let followed = l .before .before in (
+    let followed = l .before .before in
+    let counted = followed .before .before .before .before .before .before .before in (
       omega arith,
       omega arith,
-      row-on _ _ _ _ _ _ _ (followed .before .loop .inv .2) (followed .follow .ensures) _ _ (l .l .given .1) (omega (arith, asked .before .if3 .left)) (asked .is-own2 .ensures) (not-false _ (c .if4 .left)),
+      row-on _ _ _ _ _ _ _ (followed .before .loop .inv .2) (followed .follow .ensures) _ _ (l .l .given .1) (omega (arith, asked .before .if3 .left, counted .entries .ensures)) (asked .is-own2 .ensures) (not-false _ (c .if4 .left)),
     )
 
 add-r : tie.Need-add-r Inv-loop μ-loop Inv-rows μ-rows
@@ -136,7 +137,7 @@ returns-3 c =
     let l = c .before .before .before in
     let followed = l .before .before in
     let head = followed .before in
-    met (head .before .before) (row-out _ _ _ _ _ _ _ (head .loop .inv .2) (followed .follow .ensures) _ _ (l .l .given .1) (c .if3 .taken))
+    met (head .before .before) (row-out _ _ _ _ _ _ _ (head .loop .inv .2) (followed .follow .ensures) _ _ (l .l .given .1) (omega (arith, c .if3 .taken)))
 
 pub is-broken-spec : {M : Type 1} → statement M
 is-broken-spec =
@@ -146,8 +147,8 @@ is-broken-spec =
     μ-loop
     Inv-rows
     μ-rows
-    mul-rows
-    mul-most
+    rows-requires
+    entries-requires
     rows-holds
     read-slot-requires
     is-own-requires

@@ -5,6 +5,7 @@ use mathlib.Core.Path.{_≡_, refl, _∙_}
 use Prim.Native.Nat.{_≤_, _-_}
 use native.Mathlib.Omega.{arith}
 use lib.ListN.{length}
+use Rattle.kind.specs.Kind.{rows}
 use Rattle.kind.specs.Areas.{both}
 use Rattle.undoing.specs.Undoing.{undoneFrom}
 use Rattle.undoing.proofs.Rounds.{rows-start, rows-on, rows-end}
@@ -12,26 +13,26 @@ use Rattle.undoing.proofs.undo_rows.Statement.{statement}
 use Rattle.undoing.proofs.undo_rows.Tie as tie
 
 abbrev Inv-loop : tie.InvT-loop
-Inv-loop data₀ undo₀ number k rows r₀ «data» undo r =
-    (r ≤ rows)
+Inv-loop data₀ undo₀ number k most r₀ «data» undo r =
+    (r ≤ most)
     × (length «data» ≡ length data₀)
     × (length undo ≡ length undo₀)
-    × (undoneFrom number k r (rows - r) (both «data» undo) ≡ undoneFrom number k 0 rows (both data₀ undo₀))
+    × (undoneFrom number k r (most - r) (both «data» undo) ≡ undoneFrom number k 0 (rows data₀) (both data₀ undo₀))
 
 abbrev μ-loop : tie.MeasureT-loop
-μ-loop data₀ undo₀ number k rows r₀ «data» undo r = rows - r
+μ-loop data₀ undo₀ number k most r₀ «data» undo r = most - r
 
-mul-rows : tie.Need-mul-rows Inv-loop μ-loop
-mul-rows c = search needs
+rows-requires : tie.Need-rows-requires Inv-loop μ-loop
+rows-requires c κs = search needs
 
 loop-holds : tie.Need-loop-holds Inv-loop μ-loop
-loop-holds c = (omega arith, refl, refl, rows-start _ _ _ _)
+loop-holds c = (omega arith, refl, refl, rows-start _ _ _ _ (c .rows .ensures))
 
 undo-row-requires : tie.Need-undo-row-requires Inv-loop μ-loop
 undo-row-requires c κs =
     let within = c .before .before in
     let head = within .before in
-    let start = head .before .before .before .before in
+    let start = head .before .before .before .before .before in
     (omega (arith, within .loop-test .taken, head .loop .inv .1), start .pre)
 
 add-r : tie.Need-add-r Inv-loop μ-loop
@@ -66,7 +67,7 @@ undo-rows-spec =
     (tie.spec
     Inv-loop
     μ-loop
-    mul-rows
+    rows-requires
     loop-holds
     undo-row-requires
     add-r

@@ -1,8 +1,7 @@
 -- `vacant::lowest_of` meets its contract. The invariant: the search from page p on is that of the whole area. Assumes nothing.
 use mathlib.Core.Path.{_≡_, sym, ap, _∙_}
-use Prim.Native.Nat.{ℕ, _≤_, _-_, _*_, _/_}
+use Prim.Native.Nat.{ℕ, _≤_, _-_, _*_}
 use native.Mathlib.Omega.{arith}
-use lib.ListN.{length}
 use borrow.Author.Needs.{needs}
 use Rattle.vacant.specs.Vacant.{lowest}
 use Rattle.vacant.proofs.Vacants.{number-fits, lowestFrom, lowestFrom-start, lowestFrom-here, lowestFrom-next, lowestFrom-end}
@@ -15,13 +14,16 @@ Inv-loop s k count n p₀ p = (p ≤ n) × (lowestFrom k s n p ≡ lowest k s)
 abbrev μ-loop : tie.MeasureT-loop
 μ-loop s k count n p₀ p = n - p
 
+pages-requires : tie.Need-pages-requires Inv-loop μ-loop
+pages-requires c κs = search needs
+
 loop-holds : tie.Need-loop-holds Inv-loop μ-loop
-loop-holds c = (omega arith, lowestFrom-start _ _)
+loop-holds c = (omega arith, lowestFrom-start _ _ (c .pages .ensures))
 
 -- the numbers up to page p fit
-fits : (c : tie.At-loop Inv-loop μ-loop) → c .loop .p * c .before .before .args .k .count ≤ 533725184
+fits : (c : tie.At-loop Inv-loop μ-loop) → c .loop .p * c .before .before .before .args .k .count ≤ 533725184
 fits c =
-    let start = c .before .before in
+    let start = c .before .before .before in
     number-fits (c .loop .p) (start .args .k .count) (omega arith) (start .pre .1 .few)
 
 mul-at : tie.Need-mul-at Inv-loop μ-loop
@@ -76,8 +78,8 @@ mul-result-2 c = omega (arith, fits (c .before))
 returns-2 : tie.Need-returns-2 Inv-loop μ-loop
 returns-2 c =
     let head = c .before in
-    let start = head .before .before in
-    let e : head .loop .p ≡ length (start .args .s .now) / 8192 = omega arith in
+    let start = head .before .before .before in
+    let e : head .loop .p ≡ head .before .pages .result = omega arith in
     sym (lowestFrom-end (start .args .k) (start .args .s .now) (head .loop .p))
     ∙ ap (λ (n : ℕ). lowestFrom (start .args .k) (start .args .s .now) n (head .loop .p)) e
     ∙ head .loop .inv .1
@@ -88,7 +90,7 @@ lowest-of-spec =
     (tie.spec
     Inv-loop
     μ-loop
-    loop-holds
+    pages-requires loop-holds
     mul-at
     add-end
     sub-lowest-in
