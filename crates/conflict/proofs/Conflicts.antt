@@ -39,7 +39,7 @@ module _ (v : View) (s : List ℕ) (t : Stamp) where
 
   module _ (whole : t .expire ≡ 0) where
     module _ (own : t .create ≡ v .number) where
-      -- "creator S earlier: go on"
+      -- "creator S earlier .. go on"
       pub conflict-earlier : t .cmd < v .statement → conflictOf v s t ≡ 0
       unfolding conflictOf
       conflict-earlier h =

@@ -28,7 +28,7 @@ command : crcOf (0x01 ∷ 0xC0 ∷ 0x00 ∷ 0x00 ∷ 0x00 ∷ 0x00 ∷ 0x00 ∷ 
 unfolding stepBy step steps byteStep run crcMore
 command = refl
 
--- the check value: of the text "123456789"
+-- the check value: of the digits 1 to 9, as text
 digits : crcOf (0x31 ∷ 0x32 ∷ 0x33 ∷ 0x34 ∷ 0x35 ∷ 0x36 ∷ 0x37 ∷ 0x38 ∷ 0x39 ∷ []) ≡ 0xE3069283
 unfolding stepBy step steps byteStep run crcMore
 digits = refl

@@ -1,5 +1,5 @@
--- Calls of which one is an accepted format: from then on they are a run, and what the lines say happened is its history ("after any sequence
--- of calls from a format"). For the script and for the station's library. Assumes nothing.
+-- Calls of which one is an accepted format: from then on they are a run, and what the lines say happened is its history
+-- (demand 3: after any sequence of calls from a format). For the script and for the station's library. Assumes nothing.
 use mathlib.Core.Path.{_≡_}
 use mathlib.Core.Bool.{Bool, false, _&&_, _||_}
 use mathlib.Core.List.{List, [], _∷_}

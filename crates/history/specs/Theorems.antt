@@ -1,5 +1,5 @@
--- DEMAND 3 as six theorems and the law under them: "After any sequence of calls from a format, an open session reads what the history alone
--- says." These are the statements; proofs/Promises.antt has their proofs. Of the crate `machine` they use the lines and the plain table
+-- DEMAND 3 as six theorems and the law under them: after any sequence of calls from a format, an open session reads what the history alone
+-- says. These are the statements; proofs/Promises.antt has their proofs. Of the crate `machine` they use the lines and the plain table
 -- (specs/Lines.antt, specs/Table.antt) and nothing of its machine. Assumes nothing.
 use Prim.Native.Nat.{ℕ, suc, _≤_, _<_}
 use mathlib.Core.Path.{_≡_}

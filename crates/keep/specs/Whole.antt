@@ -32,7 +32,7 @@ areaRight k s = allBelow (λ (p : ℕ). pageRight k (p + 1) (pageAt p s)) (pages
 unfoldable pub highest : List ℕ → ℕ
 highest s = fieldIn txnId (pageAt 0 s)
 
--- "01 or 10": committed or withdrawn
+-- committed or withdrawn, as 01 and 10 say
 abbrev pub ended : Status → Bool
 ended InWork = false
 ended Committed = true

@@ -25,7 +25,7 @@ pub data From (m₀ : Machine) (h₀ : History) : Machine → History → Type 0
   start : From m₀ h₀ m₀ h₀
   after : {m : Machine} {h : History} → From m₀ h₀ m h → (c : Step) → accept m c ≡ true → From m₀ h₀ (effect m c) (add m c h)
 
--- "from a format"
+-- from a format
 abbrev pub Reach : Machine → History → Type 0
 Reach m h = From empty [] m h
 

@@ -66,7 +66,7 @@ abbrev pub lineFor : Call → Verdict → List ℕ
 lineFor c (refused n) = answerLine n []
 lineFor c (done a b y) = answerLine 0 (fieldsFor c a b y)
 
--- what a line does to the world, and what it prints: "An ill-formed line .. answers one 16 and does nothing"
+-- what a line does to the world, and what it prints: "An ill-formed, too long or unended line .. answers one 16 and does nothing"
 abbrev pub afterLine : World → Option Call → World
 afterLine w none = w
 afterLine w (some c) = after w c

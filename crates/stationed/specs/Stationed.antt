@@ -1,4 +1,4 @@
--- The calls of the station's library, one after the other, as a history ("01, What the station lends, and who decides"): "the three lent areas" and
+-- The calls of the station's library, one after the other, as a history ("01, What the station lends, and who decides"): the "three lent areas" and
 -- the desk's words go into each call as the one before left them, and what a program is told is what it can take from the call's number, its out
 -- array and the place of a body. Assumes nothing.
 use Prim.Native.Nat.{ℕ, _<_}
@@ -82,7 +82,7 @@ worldOf h = world (h .lent) (deskIn (h .words))
 abbrev pub Worded : Held → Type 0
 Worded h = length (h .words) ≡ all-words
 
--- ---- calls one after the other, "each given what the one before left"
+-- ---- calls one after the other, each given what the one before left
 
 abbrev pub onwardAll : Held → List Call → Held
 onwardAll h [] = h

@@ -135,7 +135,7 @@ module _ {r : ℕ} {u u′ : List ℕ} (f : OfRow r u u′) (t : ℕ) (ne : t �
   chainOf-ofRow d d′ slot = chainOf-agree u u′ t link-ofRow d d′ (ap (λ (n : ℕ). n * 101) (f .size)) slot
 
 module _ {r : ℕ} {d u d′ u′ : List ℕ} (f : Treated r d u d′ u′) where
-  -- "the order of rows is of no account": a row that is not treated has the chain that it had
+  -- the order of rows is of no account: a row that is not treated has the chain that it had
   pub chainOf-treated : (t : ℕ) → (t ≡ r → ⊥) → chainOf d′ u′ t ≡ chainOf d u t
   chainOf-treated t ne = chainOf-ofRow (f .ofRow) t ne d d′ (f .slots t ne)
 

@@ -184,7 +184,7 @@ length-onLast f [] = refl
 length-onLast f (x ∷ []) = refl
 length-onLast f (x ∷ y ∷ ys) = ap suc (length-onLast f (y ∷ ys))
 
--- "Its answer is the number of versions removed": those held before are those and the ones that stay
+-- its answer is the number of "versions removed": those held before are those and the ones that stay
 front-gone : (m : ℕ) (st : List ℕ) (xs : List Version) → length xs ≡ goneBehind m st xs + length (front (deadIn m st) xs)
 unfolding goneBehind front
 front-gone m st [] = refl
@@ -374,7 +374,7 @@ module _ (m : ℕ) (st : List ℕ) (r : ℕ) (d u : List ℕ) (h : RowIn r d u) 
           (by (deadIn m st (slotAt r d)) some
           (subst (λ (w : Bool). Strand u r w [] (slotAt r d .«undo_ptr») (behind .versions)) ends (chain-strand u r (entries u) [] (slotAt r d .«undo_ptr»))))
 
-  -- "Its answer is the number of versions removed, equal to versions held before less versions held after"
+  -- its answer is the number of "versions removed, equal to versions held before less versions held after"
   pub goneRow-count : chainOf d u r .whole ≡ true
       → length (chainOf d u r .versions)
       ≡ goneRow m st r (both d u) + length (chainOf (sweptRow m st r (both d u) .«data») (sweptRow m st r (both d u) .undo) r .versions)

@@ -25,7 +25,7 @@ fn lowest_in(page: &[u8], k: Kind) -> usize
     i
 }
 
-// The lowest record of an area of kind k that is not in use, "lowest page, then lowest place"; where all are, their number.
+// The lowest record of an area of kind k that is not in use, lowest page first, then lowest place; where all are, their number.
 fn lowest_of(s: &[u8], k: Kind) -> usize
     requires { ⌜ (pages (now s) ≤ 65536) × Roomy k ⌝ }
     ensures { λ r. ⌜ r ≡ lowest k (now (s .entry)) ⌝ }
