@@ -5,7 +5,7 @@ use native.Mathlib.Omega.{arith}
 use mathlib.Core.Path.{_≡_, refl, sym, ap, subst, _∙_}
 use mathlib.Core.Bool.{Bool, true, false, _&&_, cond}
 use mathlib.Core.Option.{Option, none, some}
-use mathlib.Core.List.{List, _++_}
+use mathlib.Core.List.{List, [], _++_}
 use lib.ListN.{length, take, drop, length-append, length-drop}
 use lib.Seq.{length-take-le, take-append-le, take-all}
 use lib.Dec.{eqb, leb}
@@ -24,7 +24,7 @@ use Rattle.line.specs.declared.Verb.the-variants.{Format, Open, Seal, Begin, Ne
 use Rattle.line.specs.declared.Command.{Command}
 use Rattle.reply.specs.Reply.{answerLine}
 use Rattle.reply.proofs.Sayings.{answer-refused}
-use Rattle.playing.specs.Playing.{playedBy, fieldsOf, lineOf, playRule}
+use Rattle.playing.specs.Playing.{illLeaves, playedBy, fieldsOf, lineOf, playRule}
 use Rattle.line.specs.Line.{ill, command}
 use Rattle.script.specs.Script.{named, isFormat, lent, dataLent, undoLent, Carried, leftIn, lineIn, stepped, lentTo}
 use Rattle.script.proofs.Promises.{refused-leaves}
@@ -55,13 +55,22 @@ module _ (a : Areas) (d : Desk) (x y : ℕ) (body : List ℕ) where
   abbrev leaves : Verb → Left
   leaves v = playedBy v a d x y body
 
-  -- it leaves what the history's call leaves, and its answer has the fields of that; an ill-formed line makes none
+  -- what the call leaves that a line makes, the fields of its answer, and whether it is a format; where it makes none, as an ill-formed line
+  abbrev leftFor : Option Call → Left
+  leftFor none = illLeaves a d
+  leftFor (some c) = leftBy w c
+
+  abbrev fieldsIn : Option Call → Left → List (List ℕ)
+  fieldsIn none l = []
+  fieldsIn (some c) l = fieldsFor c (l .first) (l .second) (bodyIn l)
+
+  abbrev formatIn : Option Call → Bool
+  formatIn none = false
+  formatIn (some c) = isFormatCall c
+
+  -- by its name it is the same
   abbrev Makes : Verb → Option Call → Type 0
-  Makes v none = v ≡ IllFormed
-  Makes v (some c) =
-      (leaves v ≡ leftBy w c)
-      × (fieldsOf v (leaves v) ≡ fieldsFor c (leaves v .first) (leaves v .second) (bodyIn (leaves v)))
-      × (isFormatCall c ≡ isFormat v)
+  Makes v o = (leaves v ≡ leftFor o) × (fieldsOf v (leaves v) ≡ fieldsIn o (leaves v)) × (formatIn o ≡ isFormat v)
 
   makes : (v : Verb) → Makes v (callBy v a x y body)
   makes Format = (refl, refl, refl)
@@ -76,12 +85,12 @@ module _ (a : Areas) (d : Desk) (x y : ℕ) (body : List ℕ) where
   makes Commit = (refl, refl, refl)
   makes Withdraw = (refl, refl, refl)
   makes Sweep = (refl, refl, refl)
-  makes IllFormed = refl
+  makes IllFormed = (refl, refl, refl)
 
   -- what it prints
   made-line : (v : Verb) (o : Option Call) → Makes v o → lineOf v (leaves v) ≡ printed w o
   unfolding step
-  made-line v none e = ap (λ (v : Verb). lineOf v (leaves v)) e
+  made-line v none m = ap (answerLine (leaves v .code)) (m .1) ∙ ap (λ (l : Left). answerLine (l .code) []) (m .0)
   made-line v (some c) m =
       ap (answerLine (leaves v .code)) (m .1)
       ∙ line-answered c (leaves v .code) (leaves v .first) (leaves v .second) (bodyIn (leaves v))
@@ -94,12 +103,12 @@ module _ (a : Areas) (d : Desk) (x y : ℕ) (body : List ℕ) where
 
   -- what it leaves
   made-world : (v : Verb) (o : Option Call) → Makes v o → isFormat v ≡ false → worldAfter (leaves v) ≡ afterLine w o
-  made-world v none e f = ap (λ (v : Verb). worldAfter (leaves v)) e
+  made-world v none m f = ap worldAfter (m .0)
   made-world v (some c) m f = ap worldAfter (m .0) ∙ plain-after w c (m .2 ∙ f)
 
   -- as long as it was lent
   made-stay : (v : Verb) (o : Option Call) → Makes v o → isFormat v ≡ false → Stay a (afterLine w o .held)
-  made-stay v none e f = (refl, refl)
+  made-stay v none m f = (refl, refl)
   made-stay v (some c) m f = step-stay w c (m .2 ∙ f)
 
 -- ---- what is carried on from it
