@@ -13,8 +13,8 @@ use Rattle.little.specs.Little.{part}
 use Rattle.kind.specs.Kind.{pages, entries}
 use Rattle.pointer.specs.declared.Lead.{Lead}
 use Rattle.pointer.specs.declared.Lead.the-variants.{Nowhere as None, Entry as ToEntry, Astray}
-use Rattle.pointer.specs.Pointer.{leadOf, placeIn}
-use Rattle.pointer.proofs.PointerLaws.{leadOf-zero, leadOf-nowhere, leadOf-inside, placeIn-leadOf}
+use Rattle.pointer.specs.Pointer.{leadOf, placeLed}
+use Rattle.pointer.proofs.PointerLaws.{leadOf-zero, leadOf-nowhere, leadOf-inside, placeLed-leadOf}
 use Rattle.records.specs.declared.entry.Entry.{Entry}
 use Rattle.records.specs.Entry.{entryOf, entryPlace, entryAt}
 use Rattle.records.proofs.Entries.{entry-inside, entryAt-read}
@@ -79,9 +79,9 @@ unfit-carries r m = by (eqb (m .writer) 0) (eqb (m .row) r) (eqb (m .copy .creat
 -- ---- one step, as the code takes it: `lead` is where it found the pointer to lead, and `at` the byte that the pointer says
 
 -- an entry is read where the pointer says
-module _ {lead : Lead} {at : ℕ} (u : List ℕ) (ptr e : ℕ) (is : lead ≡ leadOf (pages u) ptr) (to : lead ≡ ToEntry e) (place : at ≡ placeIn ptr) where
+module _ {lead : Lead} {at : ℕ} (u : List ℕ) (ptr e : ℕ) (is : lead ≡ leadOf (pages u) ptr) (to : lead ≡ ToEntry e) (place : at ≡ placeLed ptr) where
   place-entry : at ≡ entryPlace e
-  place-entry = place ∙ placeIn-leadOf (pages u) ptr e (sym is ∙ to)
+  place-entry = place ∙ placeLed-leadOf (pages u) ptr e (sym is ∙ to)
 
   pub link-room : at + 80 ≤ length u
   link-room = omega (arith, place-entry, entry-inside e u (leadOf-inside (pages u) ptr e (sym is ∙ to)))

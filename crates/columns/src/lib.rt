@@ -26,6 +26,13 @@ pub type Column = [u32; Limits::SESSIONS];
 
 pub type Lists = [u32; Limits::PLACES];
 
+// A number of a column beside one that may be any.
+pub fn wide(x: u32) -> u64
+    ensures { λ r. ⌜ r ≡ x ⌝ }
+{
+    x as u64
+}
+
 // Stores the first 15 numbers at `at`: "the numbers open when it began", and unused places behind them.
 fn put_list(lists: &mut [u32], at: usize, numbers: Column)
     requires { ⌜ at + members ≤ length (now lists) ⌝ }

@@ -1,7 +1,8 @@
--- The laws of first, count and all over a range, each in the steps of a loop: here, next, end. Assumes nothing.
+-- The laws of first, count and all over a range, each in the steps of a loop: here, next, end; and laws of plain truth values, for every
+-- crate above. Assumes nothing.
 use mathlib.Core.Path.{_≡_, refl, sym, ap, ap₂, _∙_}
 use mathlib.Core.Logic.{_⊎_, inl, inr, ⊎-elim}
-use mathlib.Core.Bool.{Bool, true, false, _&&_, cond, and-false}
+use mathlib.Core.Bool.{Bool, true, false, _&&_, _||_, cond, and-false, true≢false}
 use Prim.Native.Nat.{ℕ, zero, suc, _+_, _-_, _≤_, _<_}
 use native.Mathlib.Nat.{not-suc-le-zero, eq-or-lt-of-le, le-of-suc-le-suc, add-zero}
 use native.Mathlib.Numerals.{add-one}
@@ -21,6 +22,8 @@ lt-or-le a b = by (ltb a b) refl
 last-or-below : (i n : ℕ) → i < suc n → (i ≡ n) ⊎ (i < n)
 last-or-below i n h = eq-or-lt-of-le (le-of-suc-le-suc h)
 
+-- ---- truth values
+
 pub and-true-left : (a b : Bool) → (a && b) ≡ true → a ≡ true
 and-true-left true b e = refl
 and-true-left false b e = e
@@ -29,6 +32,40 @@ pub and-true-right : (a b : Bool) → (a && b) ≡ true → b ≡ true
 and-true-right true b e = e
 and-true-right false true e = refl
 and-true-right false false e = e
+
+-- four tests, two by two, and a test that is asked again
+pub and-mix : (a x b y : Bool) → ((a && x) && (b && y)) ≡ ((a && b) && (x && y))
+and-mix true true b y = refl
+and-mix true false b y = sym (and-false b)
+and-mix false x b y = refl
+
+pub and-again : (p q s : Bool) → ((p && q) && (q && s)) ≡ (p && (q && s))
+and-again true true s = refl
+and-again true false s = refl
+and-again false q s = refl
+
+pub or-false-left : (a b : Bool) → (a || b) ≡ false → a ≡ false
+or-false-left true b e = e
+or-false-left false b e = refl
+
+pub or-false-right : (a b : Bool) → (a || b) ≡ false → b ≡ false
+or-false-right true b e = absurd (true≢false e)
+or-false-right false b e = e
+
+pub or-true-right : (a b : Bool) → (a || b) ≡ true → a ≡ false → b ≡ true
+or-true-right true b e f = absurd (true≢false f)
+or-true-right false b e f = e
+
+pub or-swap : (a b c : Bool) → (a || (b || c)) ≡ (b || (a || c))
+or-swap true true c = refl
+or-swap true false c = refl
+or-swap false b c = refl
+
+-- each holds where the other does
+pub same-truth : (a b : Bool) → (a ≡ true → b ≡ true) → (b ≡ true → a ≡ true) → a ≡ b
+same-truth true b there back = sym (there refl)
+same-truth false true there back = back refl
+same-truth false false there back = refl
 
 module _ (f : ℕ → Bool) where
   -- ---- first

@@ -10,9 +10,9 @@ use native.Mathlib.Omega.{arith}
 use lib.Bits.{bitOr, or-zero-r, or-add-and, and-le-l}
 use lib.ListN.{getD}
 use lib.Dec.{eqb, eqb·suc-zero}
-use borrow.Author.Tests.{eqb-true, eq-eqb, ne-eqb}
+use borrow.Author.Tests.{eqb-true, ne-eqb}
 use Rattle.ground.specs.Range.{allBelow}
-use Rattle.ground.proofs.Ranges.{and-true-left, and-true-right, all-at, all-intro}
+use Rattle.ground.proofs.Ranges.{and-true-right, all-at, all-intro, and-mix, and-again}
 use Rattle.places.specs.Places.{follows, placed, ascending}
 use Rattle.places.proofs.Places.{unused-more}
 
@@ -24,12 +24,6 @@ or-none a zero = rw (or-zero-r a) (sym (and-true (eqb a 0)))
 or-none a (suc b) =
     let some : bitOr a (suc b) ≡ 0 → ⊥ = λ e. omega (arith, or-add-and a (suc b), and-le-l a (suc b)) in
     rw eqb·suc-zero (ne-eqb (bitOr a (suc b)) 0 some ∙ sym (and-false (eqb a 0)))
-
--- four tests, two by two
-pub and-mix : (a x b y : Bool) → ((a && x) && (b && y)) ≡ ((a && b) && (x && y))
-and-mix true true b y = refl
-and-mix true false b y = sym (and-false b)
-and-mix false x b y = refl
 
 -- ---- a run of unused places
 
@@ -132,11 +126,6 @@ eight-more r at i a b c d e f g h low so =
     ∙ ap (ascending 0 r at) (sym more)
 
 -- behind the last turn: the places up to i, and the last eight, some of which may be among them
-and-again : (p q s : Bool) → ((p && q) && (q && s)) ≡ (p && (q && s))
-and-again true true s = refl
-and-again true false s = refl
-and-again false q s = refl
-
 pub eight-last : (r : List ℕ) (at i end : ℕ) (a b c d e f g h last : ℕ)
     → at + 8 ≤ end
     → i ≤ end

@@ -3,17 +3,17 @@
 use mathlib.Core.Path.{_≡_, refl, sym, ap, ap₂, _∙_}
 use mathlib.Core.Bool.{Bool, true, _&&_}
 use mathlib.Core.List.{List}
-use Prim.Native.Nat.{ℕ, zero, suc, _+_, _-_, _*_, _≤_, _<_}
-use native.Mathlib.Nat.{add-zero, add-suc, zero-add}
+use Prim.Native.Nat.{ℕ, zero, suc, _+_, _-_, _*_, _<_}
+use native.Mathlib.Nat.{add-zero, add-suc}
 use native.Mathlib.Omega.{arith}
 use lib.ListN.{getD}
 use lib.Dec.{eqb, leb, leb·suc-zero, eqb·suc-zero}
 use borrow.Author.Tests.{ne-eqb}
 use Rattle.ground.specs.Range.{allBelow}
-use Rattle.ground.proofs.Ranges.{all-at, all-intro}
+use Rattle.ground.proofs.Ranges.{all-at, all-intro, and-mix}
 use Rattle.columns.specs.Limits.{sessions, members, places, lastStatement}
 use Rattle.places.specs.Places.{placed, ascending, sessionSound}
-use Rattle.places.proofs.Runs.{and-mix, unused-none, unused-suc, unused-split, unused-at, behind}
+use Rattle.places.proofs.Runs.{unused-none, unused-suc, unused-split, unused-at, behind}
 
 leb-zero : (n : ℕ) → leb n 0 ≡ eqb n 0
 leb-zero zero = refl

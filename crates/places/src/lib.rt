@@ -144,13 +144,6 @@ pub fn open_count(numbers: &[u32]) -> usize
     n
 }
 
-// A number of the desk beside one that comes into a call, which may be any.
-fn wide(x: u32) -> u64
-    ensures { λ r. ⌜ r ≡ x ⌝ }
-{
-    x as u64
-}
-
 // The place at which number x stands; where it stands nowhere, 16. Of 0 it is the first unused place: session 0 is never open.
 pub fn find(numbers: &[u32], x: u64) -> usize
     requires { ⌜ length (now numbers) ≡ sessions ⌝ }
@@ -158,7 +151,7 @@ pub fn find(numbers: &[u32], x: u64) -> usize
 {
     let mut k = 0;
     while k < Limits::SESSIONS {
-        if wide(numbers[k]) == x {
+        if columns::wide(numbers[k]) == x {
             return k;
         }
         k += 1;

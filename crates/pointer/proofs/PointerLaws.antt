@@ -12,7 +12,7 @@ use borrow.Author.Tests.{eqb-true, leb-true, ltb-true, ltb-false, eq-eqb, le-leb
 use Rattle.ground.proofs.Ranges.{and-true-left, and-true-right}
 use Rattle.kind.specs.Place.{placeOf}
 use Rattle.kind.proofs.Places.{Lie, placeOf-numberOf}
-use Rattle.pointer.specs.Pointer.{pointerAt, pointerFor, pageIn, offsetIn, wellFormed, atEntry, entryNamed, placeNamed, leads, pointerTo, leadOf, placeIn}
+use Rattle.pointer.specs.Pointer.{pointerAt, pointerFor, pageIn, offsetIn, wellFormed, atEntry, entryNamed, placeNamed, leads, pointerTo, leadOf, placeLed}
 use Rattle.pointer.specs.declared.Lead.the-variants.{Nowhere, Entry, Astray}
 
 -- ---- a pointer and its parts
@@ -217,9 +217,9 @@ pub leadOf-page : (n v e : ℕ) → leadOf n v ≡ Entry e → 1 ≤ pageIn v
 unfolding leadOf
 leadOf-page n v e h = leads-led 80 101 n v e h .low
 
-pub placeIn-leadOf : (n v e : ℕ) → leadOf n v ≡ Entry e → placeIn v ≡ placeOf 8192 80 101 e
-unfolding leadOf placeIn
-placeIn-leadOf =
+pub placeLed-leadOf : (n v e : ℕ) → leadOf n v ≡ Entry e → placeLed v ≡ placeOf 8192 80 101 e
+unfolding leadOf placeLed
+placeLed-leadOf =
     placeNamed-leads 80 101 (omega arith) (omega arith) (omega arith) (record { some = omega arith; room = omega arith })
 
 pub pointerTo-some : (e : ℕ) → pointerTo e ≡ 0 → ⊥

@@ -54,5 +54,5 @@ pointerTo e = pointerFor (undoKind .size) (undoKind .count) e
 unfoldable pub leadOf : ℕ → ℕ → Lead
 leadOf n v = leads (undoKind .size) (undoKind .count) n v
 
-unfoldable pub placeIn : ℕ → ℕ
-placeIn v = placeNamed pageSize (pageIn v) (offsetIn v)
+unfoldable pub placeLed : ℕ → ℕ
+placeLed v = placeNamed pageSize (pageIn v) (offsetIn v)

@@ -3,7 +3,7 @@ use kind::Kind;
 ghost use mathlib.Core.Path.{_≡_};
 ghost use Prim.Native.Nat.{_<_, _≤_, _^_};
 ghost use Rattle.kind.specs.Kind.{undoKind};
-ghost use Rattle.pointer.specs.Pointer.{pointerTo, pageIn, offsetIn, placeIn, leadOf, wellFormed, atEntry};
+ghost use Rattle.pointer.specs.Pointer.{pointerTo, pageIn, offsetIn, placeLed, leadOf, wellFormed, atEntry};
 
 pub struct Pointer {
     pub raw: u64,
@@ -59,7 +59,7 @@ impl Pointer {
     // there, and a walk need not wait for the entry's number.
     pub fn place(self) -> usize
         requires { ⌜ 1 ≤ pageIn (self .raw) ⌝ }
-        ensures { λ p. ⌜ p ≡ placeIn (self .raw) ⌝ }
+        ensures { λ p. ⌜ p ≡ placeLed (self .raw) ⌝ }
     {
         let v = self.raw;
         (page_in(v) - 1) * Kind::PAGE + offset_in(v)

@@ -8,6 +8,7 @@ use native.Mathlib.Omega.{arith}
 use lib.ListN.{length}
 use lib.Dec.{eqb}
 use borrow.Author.Tests.{eqb-true, eqb-false, leb-false, not-false}
+use Rattle.ground.proofs.Ranges.{or-false-left, or-false-right}
 use Rattle.ground.specs.Refuse.{firstOf, settle}
 use Rattle.ground.proofs.Refusals.{firstOf-more, firstOf-none}
 use Rattle.little.specs.Little.{Bytes}
@@ -28,13 +29,13 @@ use Rattle.chain.proofs.Walks.{walk-body}
 use Rattle.admit.proofs.Admissions.{Admits, accepts, admits-from, admits-session, admits-statement, admits-lent}
 use Rattle.vacant.specs.Vacant.{lowestEmpty, lowestFree}
 use Rattle.vacant.proofs.Vacants.{lowestEmpty-lt, lowestFree-lt, lowestFree-free}
-use Rattle.seeking.specs.Seeking.{noRow, isBroken, breaks, isAbsent, misses, says, writeRefusal}
+use Rattle.seeking.specs.Seeking.{noRow, isBroken, breaks, isAbsent, misses, writeRefusal}
 use Rattle.seeking.proofs.Seekings.{Writable, reading, writing, write-passed}
 use Rattle.writing.specs.Writing.{made, expired, inserted, updatedData, updatedUndo, deleted}
 use Rattle.versions.specs.Versions.{older, Fits, Takes}
 use Rattle.versions.proofs.Versions.{chainOf-inserted-other, chainOf-inserted-own, chainOf-deleted-other, chainOf-deleted-own, chainOf-updated-other, chainOf-updated-own}
 use Rattle.rows.specs.Rows.{viewIn, badBody, insertRefusal, insertRule, updateRefusal, updated, updateRule, deleteRefusal, deleteRule, seenBy, readRefusal, readRule}
-use Rattle.rows.proofs.Calls.{small-number}
+use Rattle.rows.proofs.Calls.{small-number, updateRoom, updateRest}
 
 -- what is done where nothing is refused
 done-is : {A : Type 0} (n : ℕ) (done : A) (refused : ℕ → A) → n ≡ 0 → settle n done refused ≡ done
@@ -134,41 +135,30 @@ module _ (d u s : List ℕ) (desk : Desk) (x : ℕ) where
       pub writable : Writable d u s (viewIn desk x) r
       pub room : lowestFree u < entries u
 
-    abbrev room : List (Bool × ℕ)
-    room = (eqb (lowestFree u) (entries u), 11) ∷ []
+    abbrev full : List (Bool × ℕ)
+    full = updateRoom d u s desk x r body
 
     abbrev rest : Bool → List (Bool × ℕ)
-    rest b =
-        (b, 5)
-        ∷ (breaks d u s (viewIn desk x) r, 6)
-        ∷ (misses d u s (viewIn desk x) r, 7)
-        ∷ (says d s (viewIn desk x) r 8, 8)
-        ∷ (says d s (viewIn desk x) r 9, 9)
-        ∷ (says d s (viewIn desk x) r 10, 10)
-        ∷ room
-
-    either : (b c : Bool) → b || c ≡ false → (b ≡ false) × (c ≡ false)
-    either true c e = let z : _≡_ {A = ℕ} 0 1 = cc in absurd (omega arith)
-    either false c e = (refl, e)
+    rest = updateRest d u s desk x r body
 
     -- what is asked of the row is not refused, where nothing is with the room behind it
-    asked : (n : ℕ) → writeRefusal d u s (viewIn desk x) r ≡ n → firstOf (writing d u s (viewIn desk x) r room) ≡ 0 → n ≡ 0
+    asked : (n : ℕ) → writeRefusal d u s (viewIn desk x) r ≡ n → firstOf (writing d u s (viewIn desk x) r full) ≡ 0 → n ≡ 0
     unfolding writeRefusal
     asked zero e h = refl
-    asked (suc n) e h = absurd (omega (arith, h, firstOf-more (writing d u s (viewIn desk x) r []) room n e))
+    asked (suc n) e h = absurd (omega (arith, h, firstOf-more (writing d u s (viewIn desk x) r []) full n e))
 
     pub updates : Updates
     unfolding updateRefusal
     updates =
         let a = accepts d u s desk x (rest (noRow d r || badBody body)) ok in
         let b = firstOf-none (noRow d r || badBody body) 5 _ (λ z. omega arith) (a .1) in
-        let e = either (noRow d r) (badBody body) (b .0) in
-        let all : firstOf (writing d u s (viewIn desk x) r room) ≡ 0 = ap (λ (t : Bool). firstOf (rest t)) (e .0 ∙ sym (b .0)) ∙ a .1 in
+        let row : noRow d r ≡ false = or-false-left (noRow d r) (badBody body) (b .0) in
+        let all : firstOf (writing d u s (viewIn desk x) r full) ≡ 0 = ap (λ (t : Bool). firstOf (rest t)) (row ∙ sym (b .0)) ∙ a .1 in
         let w = write-passed d u s (viewIn desk x) r (asked (writeRefusal d u s (viewIn desk x) r) refl all) in
-        let f = firstOf-none (eqb (lowestFree u) (entries u)) 11 _ (λ z. omega arith) (sym (w .passed room) ∙ all) in
+        let f = firstOf-none (eqb (lowestFree u) (entries u)) 11 _ (λ z. omega arith) (sym (w .passed full) ∙ all) in
         record {
           session = a .0;
-          long = eqb-true (length body) 32 (not-false _ (e .1));
+          long = eqb-true (length body) 32 (not-false _ (or-false-right (noRow d r) (badBody body) (b .0)));
           writable = w;
           room = lowestFree-lt u (eqb-false (lowestFree u) (entries u) (f .0));
         }

@@ -175,11 +175,11 @@ update-inside u is all h =
     omega arith
 
 module _ (d u s : List ℕ) (desk : Desk) (x r : ℕ) (body : List ℕ) where
-  abbrev room : List (Bool × ℕ)
-  room = (eqb (lowestFree u) (entries u), 11) ∷ []
+  abbrev pub updateRoom : List (Bool × ℕ)
+  updateRoom = (eqb (lowestFree u) (entries u), 11) ∷ []
 
   -- behind 4, with what 5 asks as b
-  abbrev updateRest : Bool → List (Bool × ℕ)
+  abbrev pub updateRest : Bool → List (Bool × ℕ)
   updateRest b =
       (b, 5)
       ∷ (breaks d u s (viewIn desk x) r, 6)
@@ -187,7 +187,7 @@ module _ (d u s : List ℕ) (desk : Desk) (x r : ℕ) (body : List ℕ) where
       ∷ (says d s (viewIn desk x) r 8, 8)
       ∷ (says d s (viewIn desk x) r 9, 9)
       ∷ (says d s (viewIn desk x) r 10, 10)
-      ∷ room
+      ∷ updateRoom
 
   abbrev updateDone : ℕ → ℕ → ℕ × Areas
   updateDone t e = (0, areas (updatedData x t r e body d) (updatedUndo x t r e d u) s)
@@ -219,13 +219,13 @@ module _ (d u s : List ℕ) (desk : Desk) (x r : ℕ) (body : List ℕ) where
       pub update-no : (m ≡ 0 → ⊥) → updateRule (areas d u s) desk x r body ≡ updateNo m
       update-no h =
           update-asked
-          ∙ write-no d u s (viewIn desk x) r room (updateDone (viewIn desk x .statement) (lowestFree u)) updateNo m (asked-in d u s desk x k a at lent r asked) h
+          ∙ write-no d u s (viewIn desk x) r updateRoom (updateDone (viewIn desk x .statement) (lowestFree u)) updateNo m (asked-in d u s desk x k a at lent r asked) h
 
       module _ (h : m ≡ 0) {e : ℕ} (is : e ≡ lowestFree u) where
-        update-room : updateRule (areas d u s) desk x r body ≡ settle (firstOf room) (updateDone (viewIn desk x .statement) (lowestFree u)) updateNo
+        update-room : updateRule (areas d u s) desk x r body ≡ settle (firstOf updateRoom) (updateDone (viewIn desk x .statement) (lowestFree u)) updateNo
         update-room =
             update-asked
-            ∙ write-on d u s (viewIn desk x) r room (updateDone (viewIn desk x .statement) (lowestFree u)) updateNo (asked-in d u s desk x k a at lent r asked ∙ h)
+            ∙ write-on d u s (viewIn desk x) r updateRoom (updateDone (viewIn desk x .statement) (lowestFree u)) updateNo (asked-in d u s desk x k a at lent r asked ∙ h)
 
         pub update-11 : {m : ℕ} → m ≡ entries u → e ≡ m → updateRule (areas d u s) desk x r body ≡ updateNo 11
         update-11 all full = update-room ∙ rw (eq-eqb (lowestFree u) (entries u) (sym is ∙ full ∙ all))

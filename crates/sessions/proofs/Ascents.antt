@@ -12,12 +12,8 @@ use lib.ListN.{getD}
 use lib.Dec.{eqb, ltb}
 use borrow.Author.Tests.{eqb-false, ne-eqb, lt-ltb, ltb-true}
 use Rattle.ground.specs.Range.{countBelow}
-use Rattle.ground.proofs.Ranges.{and-true-left, and-true-right, all-at, all-intro, all-agree}
+use Rattle.ground.proofs.Ranges.{and-true-left, and-true-right, all-at, all-intro, all-agree, or-true-right}
 use Rattle.places.specs.Places.{follows, placed, ascending}
-
-or-right : (a b : Bool) → (a || b) ≡ true → a ≡ false → b ≡ true
-or-right true b e f = let z : _≡_ {A = ℕ} 0 1 = cc in absurd (omega arith)
-or-right false b e f = e
 
 -- ---- a run, place by place
 
@@ -33,7 +29,7 @@ module _ (top : ℕ) (l : List ℕ) (at : ℕ) where
       → (ltb (getD l (at + i) 0) top && follows l at i) ≡ true
   unfolding placed
   placed-used i e u =
-      or-right (eqb (getD l (at + i) 0) 0) (ltb (getD l (at + i) 0) top && follows l at i) e (ne-eqb (getD l (at + i) 0) 0 u)
+      or-true-right (eqb (getD l (at + i) 0) 0) (ltb (getD l (at + i) 0) top && follows l at i) e (ne-eqb (getD l (at + i) 0) 0 u)
 
   placed-below : (i : ℕ) → placed top l at i ≡ true → (getD l (at + i) 0 ≡ 0 → ⊥) → getD l (at + i) 0 < top
   placed-below i e u = ltb-true _ _ (and-true-left (ltb (getD l (at + i) 0) top) (follows l at i) (placed-used i e u))

@@ -10,7 +10,7 @@ use lib.Dec.{eqb, ltb}
 use lib.ListN.{getD, length, take, length-take}
 use lib.Seq.{getD-take}
 use borrow.Author.Tests.{eqb-false}
-use Rattle.ground.proofs.Ranges.{lt-or-le}
+use Rattle.ground.proofs.Ranges.{lt-or-le, same-truth}
 use Rattle.columns.specs.Columns.{usedIn, usedOf}
 use Rattle.sight.specs.declared.Stamp.{Stamp}
 use Rattle.sight.specs.Sight.{viewOf, committed, listed, sees, earlier, known, there}
@@ -30,11 +30,6 @@ unfolding usedOf
 used-front l h = record { upTo = usedIn l; is = refl; unused = h }
 
 -- ---- listed
-
-same-truth : (a b : Bool) → (a ≡ true → b ≡ true) → (b ≡ true → a ≡ true) → a ≡ b
-same-truth true b there back = sym (there refl)
-same-truth false true there back = back refl
-same-truth false false there back = refl
 
 module _ (l : List ℕ) (n : ℕ) (unused : (i : ℕ) → n ≤ i → getD l i 0 ≡ 0) (x : ℕ) (some : x ≡ 0 → ⊥) where
   in-whole : listed x (take n l) ≡ true → listed x l ≡ true

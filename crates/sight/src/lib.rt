@@ -41,13 +41,6 @@ pub fn is_committed(status: &[u8], x: u64) -> bool
     }
 }
 
-// A listed number beside one that a stamp holds, which may be any.
-fn wide(x: u32) -> u64
-    ensures { λ r. ⌜ r ≡ x ⌝ }
-{
-    x as u64
-}
-
 // Whether x is among the numbers open when the session began. The list is lent as far as it is used, so that no search meets an unused
 // place.
 fn is_listed(list: &[u32], x: u64) -> bool
@@ -55,7 +48,7 @@ fn is_listed(list: &[u32], x: u64) -> bool
 {
     let mut i = 0;
     while i < list.len() {
-        if wide(list[i]) == x {
+        if columns::wide(list[i]) == x {
             return true;
         }
         i += 1;

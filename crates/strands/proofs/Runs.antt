@@ -1,12 +1,13 @@
 -- Where the versions of a chain lie ("01, Sessions and sight"): each in an entry of its row, no two in the same; and a whole chain is
 -- again one where those entries are as they were. Assumes nothing.
 use mathlib.Core.Path.{_≡_, refl, sym, ap, subst, _∙_}
-use mathlib.Core.Bool.{Bool, true, false, _||_, true≢false, false≢true}
+use mathlib.Core.Bool.{Bool, true, false, false≢true}
 use mathlib.Core.List.{List, [], _∷_}
 use Prim.Native.Nat.{ℕ, zero, suc, _*_, _≤_, _<_}
 use native.Mathlib.Omega.{arith}
 use lib.ListN.{length}
 use lib.Dec.{eqb}
+use Rattle.ground.proofs.Ranges.{or-false-right}
 use Rattle.kind.specs.Kind.{pages, entries}
 use Rattle.pointer.specs.Pointer.{leadOf}
 use Rattle.records.specs.declared.slot.Slot.{Slot}
@@ -103,12 +104,8 @@ unfolding among
 strand-kept u u′ r w size [] ps ptr same s = λ h. link-end-kept u u′ r ptr (s h)
 strand-kept u u′ r w size (x ∷ xs) ps ptr same s = (
   step-kept (s .0) u′ size (same (entryIn x) (s .0 .fresh)),
-  strand-kept u u′ r w size xs (entryIn x ∷ ps) (x .slot .«undo_ptr») (λ t out. same t (earlier (eqb t (entryIn x)) (among t ps) out)) (s .1),
+  strand-kept u u′ r w size xs (entryIn x ∷ ps) (x .slot .«undo_ptr») (λ t out. same t (or-false-right (eqb t (entryIn x)) (among t ps) out)) (s .1),
 )
-  where
-    earlier : (a b : Bool) → a || b ≡ false → b ≡ false
-    earlier true b h = absurd (true≢false h)
-    earlier false b h = h
 
 -- freeing an entry that was passed leaves what is behind it
 pub strand-freed : (e : ℕ) (u u′ : List ℕ) → Frees e u u′ → (r : ℕ) (w : Bool) (xs : List Version) (ps : List ℕ) (ptr : ℕ)

@@ -6,6 +6,7 @@ use mathlib.Core.List.{List, [], _∷_}
 use Prim.Native.Nat.{ℕ, zero, suc, _/_, _<_}
 use lib.Dec.{eqb}
 use borrow.Author.Tests.{eqb-true, eqb-false}
+use Rattle.ground.proofs.Ranges.{or-swap}
 use Rattle.kind.specs.Kind.{pages, entries}
 use Rattle.pointer.specs.declared.Lead.{Lead}
 use Rattle.pointer.specs.declared.Lead.the-variants.{Nowhere as None, Entry as ToEntry, Astray}
@@ -103,13 +104,8 @@ module _ (g : ℕ → Bool) (u u′ : List ℕ) (r : ℕ) (links : (ptr : ℕ) �
   chainFrom-less (suc fuel) ps qs ptr s = on (linkOf u r ptr) refl (λ q m. chainFrom-less fuel (q ∷ ps) (q ∷ qs) (m .copy .«undo_ptr»))
     where
       -- one more entry passed in both
-      swap : (a b c : Bool) → a || (b || c) ≡ b || (a || c)
-      swap true true c = refl
-      swap true false c = refl
-      swap false b c = refl
-
       further : (p q : ℕ) → among q (p ∷ qs) ≡ (g q || among q (p ∷ ps))
-      further p q = ap (λ (b : Bool). eqb q p || b) (s q) ∙ swap (eqb q p) (g q) (among q ps)
+      further p q = ap (λ (b : Bool). eqb q p || b) (s q) ∙ or-swap (eqb q p) (g q) (among q ps)
 
       on : (l : Link) → linkOf u r ptr ≡ l
           → ((q : ℕ) (m : Entry) → ((x : ℕ) → among x (q ∷ qs) ≡ (g x || among x (q ∷ ps)))

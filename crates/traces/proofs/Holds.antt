@@ -2,12 +2,13 @@
 -- passed before. Assumes nothing.
 use mathlib.Core.Path.{_≡_, refl, sym, ap, subst, _∙_}
 use mathlib.Core.Logic.{_⊎_, inl, inr}
-use mathlib.Core.Bool.{Bool, true, false, _||_, true≢false}
+use mathlib.Core.Bool.{Bool, true, false}
 use mathlib.Core.List.{List, [], _∷_}
 use Prim.Native.Nat.{ℕ}
 use native.Mathlib.Omega.{arith}
 use lib.Dec.{eqb}
 use borrow.Author.Tests.{eqb-true, eqb-false}
+use Rattle.ground.proofs.Ranges.{or-false-right}
 use Rattle.kind.specs.Kind.{entries}
 use Rattle.records.specs.declared.entry.Entry.{Entry}
 use Rattle.records.specs.Slot.{slotAt}
@@ -46,13 +47,9 @@ unfolding among
 strand-holds u r w [] ps ptr s e h = absurd h
 strand-holds u r w (x ∷ xs) ps ptr s e h = by h (strand-holds u r w xs (entryIn x ∷ ps) (x .slot .«undo_ptr») (s .1) e)
   where
-    earlier : (a b : Bool) → a || b ≡ false → b ≡ false
-    earlier true b h = absurd (true≢false h)
-    earlier false b h = h
-
     by : (x .place ≡ Undo e) ⊎ HoldsOne e xs → (HoldsOne e xs → Holding u r (entryIn x ∷ ps) e) → Holding u r ps e
     by (inl at) ih = step-holds (s .0) e at
-    by (inr k) ih = record { used = ih k .used; row = ih k .row; fresh = earlier (eqb e (entryIn x)) (among e ps) (ih k .fresh) }
+    by (inr k) ih = record { used = ih k .used; row = ih k .row; fresh = or-false-right (eqb e (entryIn x)) (among e ps) (ih k .fresh) }
 
 -- the entry of the version in front, and those of the versions behind it
 module _ {u : List ℕ} {r : ℕ} {ps : List ℕ} {ptr : ℕ} {x : Version} (s : Step u r ps ptr x) (xs : List Version) (e : ℕ) where

@@ -1,7 +1,7 @@
 -- `pointer::Pointer::place` meets its contract: the code is the definition. Assumes nothing.
 use borrow.Author.Needs.{needs}
 use mathlib.Core.Path.{ap₂}
-use Rattle.pointer.specs.Pointer.{placeNamed, placeIn}
+use Rattle.pointer.specs.Pointer.{placeNamed, placeLed}
 use Rattle.pointer.proofs.Pointer.place.Statement.{statement}
 use Rattle.pointer.proofs.Pointer.place.Tie as tie
 
@@ -21,7 +21,7 @@ add-result : tie.Need-add-result
 add-result c = search needs
 
 returns : tie.Need-returns
-unfolding placeIn
+unfolding placeLed
 returns c = ap₂ (placeNamed 8192) (c .before .page-in .ensures) (c .offset-in .ensures)
 
 pub place-spec : {M : Type 1} → statement M
