@@ -21,7 +21,7 @@ use Rattle.sight.specs.declared.Stamp.{Stamp}
 use Rattle.sight.specs.Sight.{standing, committed, sees, earlier, known, there}
 use Rattle.sight.specs.Conflict.{conflictOf, isDead}
 use Rattle.sight.proofs.Sights.{committed-zero}
-use Rattle.chain.specs.Chain.{Version, chainOf}
+use Rattle.chain.specs.Chain.{Version}
 use Rattle.chain.specs.Walk.{stampOf}
 use Rattle.freeing.specs.Freeing.{sweptSlot}
 use Rattle.trimming.specs.Trimming.{deadIn, sweptAt, sweptAll, cutAt, sweptBehind, sweptVersions, sweptRow, goneBehind, goneRow}

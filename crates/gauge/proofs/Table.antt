@@ -1,8 +1,7 @@
 -- That the definitions give the numbers of document 01's table, by computation. Assumes nothing.
-use Prim.Native.Nat.{ℕ, _+_, _<_}
+use Prim.Native.Nat.{ℕ, _+_}
 use mathlib.Core.Path.{_≡_, refl, ap, _∙_}
-use mathlib.Core.List.{List, _++_}
-use lib.Seq.{sets}
+use mathlib.Core.List.{List}
 use Rattle.little.specs.Little.{digits, bytesOf}
 use Rattle.kind.specs.declared.Kind.{Kind}
 use Rattle.kind.specs.Kind.{pages, dataKind, undoKind, statusKind}

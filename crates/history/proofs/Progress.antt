@@ -1,6 +1,6 @@
 -- What is asked for and not refused by 01's table is done: so a store that refuses all does not meet the theorems. Assumes nothing.
 use Prim.Native.Nat.{ℕ, _≤_, _<_}
-use mathlib.Core.Path.{_≡_, refl, sym, _∙_}
+use mathlib.Core.Path.{_≡_, refl, _∙_}
 use mathlib.Core.Bool.{Bool, true, false, or-false}
 use mathlib.Core.Option.{some}
 use mathlib.Core.List.{List, [], _∷_}
@@ -9,6 +9,7 @@ use lib.Dec.{eqb, ltb}
 use lib.ListN.{length}
 use borrow.Author.Tests.{eqb-true, eq-eqb, ne-eqb, le-ltb}
 use Rattle.ground.specs.Refuse.{firstOf}
+use Rattle.ground.proofs.Ranges.{same-truth}
 use Rattle.places.specs.Open.{openCount, isOpen}
 use Rattle.desk.specs.Turns.{viewAt}
 use Rattle.desk.specs.View.{View}
@@ -40,11 +41,6 @@ use Rattle.history.proofs.Refused.{done-ok, withdraws, sweeps}
 
 is-done : (w : World) (c : Call) → isDone (whenDone w c .answer) ≡ true → refusalOf w c ≡ 0 → isDone (says w c) ≡ true
 is-done w c d ok = step-settled w c (λ (t : Response). isDone (t .answer) ≡ true) (λ e. d) (λ m e. absurd (omega (arith, e, ok)))
-
-both-ways : (a b : Bool) → (a ≡ true → b ≡ true) → (b ≡ true → a ≡ true) → a ≡ b
-both-ways true b f g = sym (f refl)
-both-ways false true f g = g refl
-both-ways false false f g = refl
 
 pub format-done : (w : World) (d u s : List ℕ) → lengthsOk (length d) (length u) (length s) ≡ true → isDone (says w (format d u s)) ≡ true
 unfolding formatRefusal
@@ -124,7 +120,7 @@ module _ (w : World) (g : Good w) where
 
       pub delete-is : isDone (says w (delete n r)) ≡ may r
       delete-is =
-          both-ways (isDone (says w (delete n r))) (may r)
+          same-truth (isDone (says w (delete n r))) (may r)
           (λ e. allowed (deletes d u (w .held .status) (w .desk) n r (done-ok w (delete n r) e) .writable)) delete-done
 
       module _ (b : List ℕ) (long : length b ≡ 32) (e : ℕ) (inside : e < entries u) (free : entryAt e u .writer ≡ 0) where
@@ -140,5 +136,5 @@ module _ (w : World) (g : Good w) where
 
         pub update-is : isDone (says w (update n r b)) ≡ may r
         update-is =
-            both-ways (isDone (says w (update n r b))) (may r)
+            same-truth (isDone (says w (update n r b))) (may r)
             (λ f. allowed (updates d u (w .held .status) (w .desk) n r b (done-ok w (update n r b) f) .writable)) update-done

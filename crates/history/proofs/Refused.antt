@@ -7,7 +7,7 @@ use mathlib.Core.List.{List, [], _∷_}
 use native.Mathlib.Omega.{arith}
 use lib.Dec.{eqb, ltb}
 use borrow.Author.Tests.{eqb-false, leb-false, ltb-false}
-use Rattle.ground.proofs.Ranges.{all-intro}
+use Rattle.ground.proofs.Ranges.{all-intro, or-false-left}
 use lib.ListN.{getD}
 use Rattle.columns.specs.Limits.{sessions, lastStatement}
 use Rattle.places.specs.Open.{openCount, placeIn, isOpen}
@@ -154,10 +154,6 @@ module _ (w : World) (g : Good w) where
   unfolding noRow
   in-area r e = leb-false (rows d) r e
 
-  first-false : (a b : Bool) → (a || b) ≡ false → a ≡ false
-  first-false true b e = e
-  first-false false b e = refl
-
   not-6 : (c : Call) → refusalOf w c ≡ 6 → ⊥
   unfolding formatRefusal openRefusal sealRefusal beginRefusal nextRefusal insertRefusal updateRefusal deleteRefusal readRefusal commitRefusal withdrawRefusal sweepRefusal
   not-6 (format a b c) e = six-zero (past (badLength (areas a b c)) 1 0 refl e .1)
@@ -170,7 +166,7 @@ module _ (w : World) (g : Good w) where
   not-6 (insert x y) e =
       six-zero (past (eqb (lowestEmpty d) (rows d)) 11 0 refl (past (badBody y) 5 (cond (eqb (lowestEmpty d) (rows d)) 11 0) refl (front w x _ e) .1) .1)
   not-6 (update x q y) e =
-      let r = row-call (noRow d q || badBody y) (viewIn (w .desk) x) q _ (λ f. in-area q (first-false (noRow d q) (badBody y) f)) (front w x _ e) in
+      let r = row-call (noRow d q || badBody y) (viewIn (w .desk) x) q _ (λ f. in-area q (or-false-left (noRow d q) (badBody y) f)) (front w x _ e) in
       six-zero (past (eqb (lowestFree u) (entries u)) 11 0 refl (tail d s (viewIn (w .desk) x) q (misses d u s (viewIn (w .desk) x) q) _ r) .1)
   not-6 (delete x q) e =
       let r = row-call (noRow d q) (viewIn (w .desk) x) q _ (in-area q) (front w x _ e) in

@@ -8,8 +8,9 @@ use mathlib.Core.List.{List, [], _∷_, _++_, append-nil, append-assoc}
 use native.Mathlib.Omega.{arith}
 use lib.Dec.{eqb, ltb}
 use borrow.Author.Tests.{eqb-false, ne-eqb, le-ltb}
+use Rattle.ground.proofs.Ranges.{or-false-left, or-false-right, or-swap}
 use Rattle.machine.specs.Table.{Body, began, moved, wrote, committed, withdrew, History, Table, bare, put, Write, play, statementOf, writesBefore, writesOf, writesOfAll, commits, whenBegan, committedTable, plainTable, member, hasWritten}
-use Rattle.machine.proofs.Basics.{true-false, or-false-left, or-false-right}
+use Rattle.machine.proofs.Basics.{true-false}
 
 -- S's own last write on the row in statements before k, if there is one
 abbrev pub own : History → ℕ → ℕ → ℕ → Option (Option Body)
@@ -46,13 +47,7 @@ replay h s r = Option·getD (own h s r (statementOf h s)) (atStart h s r)
 
 pub member-append : (x y : ℕ) (l : List ℕ) → member x (l ++ (y ∷ [])) ≡ (eqb x y || member x l)
 member-append x y [] = refl
-member-append x y (z ∷ l) = rw (member-append x y l) (swap (eqb x z) (eqb x y) (member x l))
-  where
-    swap : (a b c : Bool) → (a || (b || c)) ≡ (b || (a || c))
-    swap true true c = refl
-    swap true false c = refl
-    swap false true c = refl
-    swap false false c = refl
+member-append x y (z ∷ l) = rw (member-append x y l) (or-swap (eqb x z) (eqb x y) (member x l))
 
 pub play-append : (t : Table) (a b : List Write) → play t (a ++ b) ≡ play (play t a) b
 play-append t [] b = refl

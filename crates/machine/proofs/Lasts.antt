@@ -10,7 +10,7 @@ use mathlib.Core.List.{List, [], _∷_, _++_, append-nil, append-assoc}
 use native.Mathlib.Omega.{arith}
 use lib.Dec.{eqb, ltb}
 use borrow.Author.Tests.{eqb-true, eqb-false, eq-eqb, ne-eqb}
-use Rattle.ground.proofs.Ranges.{and-true-left, and-true-right}
+use Rattle.ground.proofs.Ranges.{and-true-left, and-true-right, or-swap}
 use Rattle.machine.specs.Table.{Body, History, began, moved, wrote, committed, withdrew, member, statementOf, committedBefore, Last, lastBut, lastWrite, mayFollow, mayWrite}
 use Rattle.machine.specs.Machine.{Version, Machine, Session, InWork, Committed, Withdrawn, isCommitted, counts, firstThere, find, isSome, fresh, expired, since, undone, strike, leave, swept, withRow, writable, Step, begin, next, insert, update, delete, commit, withdraw, sweep, accept, effect}
 use Rattle.machine.specs.Runs.{start, after, Reach, add}
@@ -93,11 +93,6 @@ without-front n (e ∷ l) a = go (eqb (e .who) n) refl (without-front n l)
         rw f (ap (λ (x : List Deed). e ∷ x) (without-none n l (a′ .1)))
 
 -- one more left out is one more session that was withdrawn, wherever it stands among them
-member-swap : (a b c : Bool) → (a || (b || c)) ≡ (b || (a || c))
-member-swap true true c = refl
-member-swap true false c = refl
-member-swap false true c = refl
-member-swap false false c = refl
 
 -- who is among these is among those
 abbrev Same : List ℕ → List ℕ → Type 0
@@ -127,7 +122,7 @@ kept-more n gone (wrote m q b ∷ h) r = go (eqb r q) (eqb m n) refl (member m g
     go true false e false ih = rw e (ap (λ (x : List Deed). written m (statementOf h m) b ∷ x) ih)
 kept-more n gone (committed m ∷ h) r = kept-more n gone h r
 kept-more n gone (withdrew m ∷ h) r =
-    kept-same (m ∷ n ∷ gone) (n ∷ m ∷ gone) (λ x. member-swap (eqb x m) (eqb x n) (member x gone)) h r ∙ kept-more n (m ∷ gone) h r
+    kept-same (m ∷ n ∷ gone) (n ∷ m ∷ gone) (λ x. or-swap (eqb x m) (eqb x n) (member x gone)) h r ∙ kept-more n (m ∷ gone) h r
 
 -- ---- the invariant
 

@@ -8,6 +8,7 @@ use mathlib.Core.List.{List, [], _∷_}
 use native.Mathlib.Omega.{arith}
 use lib.Dec.{eqb, ltb}
 use borrow.Author.Tests.{eq-eqb, ltb-false}
+use Rattle.ground.proofs.Ranges.{or-swap}
 use Rattle.machine.specs.Table.{Body, History, Table, bare, play, statementOf, writesBefore, writesOf, writesOfAll, commits, whenBegan, committedTable, placed, ascending, numberTable, plainTable, member, hasWritten}
 use Rattle.machine.specs.Machine.{Machine, empty, isSome, begin, next, insert, update, delete, commit, withdraw, sweep}
 use Rattle.machine.specs.Runs.{start, after, Reach}
@@ -35,16 +36,10 @@ member-placed : (y x : ℕ) (l : List ℕ) → member y (placed x l) ≡ (eqb y 
 member-placed y x [] = refl
 member-placed y x (z ∷ l) = go (ltb x z) refl (member-placed y x l)
   where
-    swap : (a b c : Bool) → (a || (b || c)) ≡ (b || (a || c))
-    swap true true c = refl
-    swap true false c = refl
-    swap false true c = refl
-    swap false false c = refl
-
     go : (b : Bool) → ltb x z ≡ b → member y (placed x l) ≡ (eqb y x || member y l)
         → member y (placed x (z ∷ l)) ≡ (eqb y x || (eqb y z || member y l))
     go true f ih = rw f
-    go false f ih = rw (f, ih) (swap (eqb y z) (eqb y x) (member y l))
+    go false f ih = rw (f, ih) (or-swap (eqb y z) (eqb y x) (member y l))
 
 member-ascending : (y : ℕ) (l : List ℕ) → member y (ascending l) ≡ member y l
 member-ascending y [] = refl

@@ -12,7 +12,7 @@ use Rattle.sessions.proofs.Changes.{isOpen-open}
 use Rattle.kind.specs.Kind.{rows}
 use Rattle.kind.specs.Areas.{Areas}
 use Rattle.kind.proofs.Lengths.{all-lent}
-use Rattle.machine.specs.Table.{Body, History, plainTable, openIn}
+use Rattle.machine.specs.Table.{Body, plainTable, openIn}
 use Rattle.machine.specs.Lines.{Verdict, read}
 use Rattle.machine.proofs.Basics.{true-false}
 use Rattle.history.specs.World.{World, says}

@@ -1,21 +1,19 @@
 -- What a call reads by walking the chain is what the machine's session reads, and the versions looked at are as many. Assumes nothing.
-use Prim.Native.Nat.{ℕ, zero, suc, _+_, _≤_, _<_}
-use mathlib.Core.Path.{_≡_, refl, ap, sym, subst, _∙_, fun-ext}
-use mathlib.Core.Bool.{Bool, true, false, cond}
-use mathlib.Core.Option.{Option}
-use mathlib.Core.List.{List, [], _∷_}
+use Prim.Native.Nat.{ℕ, _+_, _≤_, _<_}
+use mathlib.Core.Path.{_≡_, sym, subst, fun-ext}
+use mathlib.Core.Bool.{Bool, true}
+use mathlib.Core.List.{List}
 use native.Mathlib.Omega.{arith}
-use lib.Dec.{ltb}
 use lib.ListN.{length}
 use borrow.Author.Tests.{lt-ltb}
 use Rattle.kind.specs.Kind.{rows}
 use Rattle.desk.specs.declared.Desk.{Desk}
 use Rattle.desk.specs.View.{View}
-use Rattle.sight.specs.Sight.{known, standing}
-use Rattle.chain.specs.Chain.{Version, chainOf}
+use Rattle.sight.specs.Sight.{known}
+use Rattle.chain.specs.Chain.{chainOf}
 use Rattle.chain.specs.Walk.{walkRule, firstIn, thereIn}
-use Rattle.machine.specs.Machine.{Machine, counts, firstThere, lookedAt, knows, reads}
-use Rattle.seen.specs.Seen.{asStanding, allHeld, rowOf, seenAs}
+use Rattle.machine.specs.Machine.{firstThere, lookedAt, knows, reads}
+use Rattle.seen.specs.Seen.{allHeld, rowOf, seenAs}
 use Rattle.seen.proofs.Walked.{Says, firstIn-is}
 use Rattle.seen.proofs.Knowing.{sessionOf, known-is}
 

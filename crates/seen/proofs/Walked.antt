@@ -1,20 +1,19 @@
 -- The walk's answer is the machine's reading. Assumes nothing.
-use Prim.Native.Nat.{ℕ, zero, suc, _+_}
-use mathlib.Core.Path.{_≡_, refl, ap, sym, _∙_}
+use Prim.Native.Nat.{ℕ, suc, _+_}
+use mathlib.Core.Path.{_≡_, refl, ap}
 use mathlib.Core.Bool.{Bool, true, false, _&&_, cond}
 use mathlib.Core.Option.{Option, none, some}
 use mathlib.Core.List.{List, [], _∷_}
 use native.Mathlib.Omega.{arith}
-use lib.Dec.{eqb, ltb}
+use lib.Dec.{ltb}
 use Rattle.desk.specs.View.{View}
 use Rattle.status.specs.declared.Status.{Status}
 use Rattle.status.specs.declared.Status.the-variants.{InWork, Committed, Withdrawn, Reserved}
 use Rattle.sight.specs.Sight.{known, there as thereFor, committed, standing, isCommitted as isDone}
 use Rattle.sight.specs.Conflict.{isDead}
-use Rattle.records.specs.declared.slot.Slot.{Slot}
 use Rattle.chain.specs.declared.Walk.{Walk}
 use Rattle.chain.specs.declared.Walk.the-variants.{Found, Absent, Broken}
-use Rattle.chain.specs.Chain.{Version, chainOf}
+use Rattle.chain.specs.Chain.{Version}
 use Rattle.chain.specs.Walk.{stampOf, thereIn, firstIn, bodyOf}
 use Rattle.machine.specs.Table.{Body}
 use Rattle.machine.specs.Machine.{there, firstThere, lookedAt, dead, isCommitted}

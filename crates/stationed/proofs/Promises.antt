@@ -1,17 +1,15 @@
 -- What a station's program may rely on: its calls are a history, and what chirimok_read reports is what the history alone says. Assumes
 -- nothing.
-use Prim.Native.Nat.{ℕ, _<_}
 use mathlib.Core.Path.{_≡_, refl, sym, ap, ap₂, subst, _∙_}
 use mathlib.Core.Bool.{Bool, true, _&&_, _||_}
 use mathlib.Core.List.{List, [], _∷_}
-use Rattle.kind.specs.Kind.{rows}
-use Rattle.machine.specs.Table.{History, plainTable, openIn}
+use Rattle.machine.specs.Table.{plainTable}
 use Rattle.machine.specs.Lines.{Call, read, Verdict, isDone, isFormat, Line, historyOf}
-use Rattle.history.specs.World.{World, says, after, afterAll, linesOf}
+use Rattle.history.specs.World.{World, afterAll, linesOf}
 use Rattle.history.specs.Asked.{AllProper, Matches}
 use Rattle.history.specs.Since.{formats, Since}
 use Rattle.history.proofs.Since.{since, since-reading}
-use Rattle.stationed.specs.Stationed.{Held, onward, told, worldOf, Worded, onwardAll, recordOf, historyBy, formatted, StationReading}
+use Rattle.stationed.specs.Stationed.{Held, onward, worldOf, Worded, onwardAll, recordOf, historyBy, formatted, StationReading}
 use Rattle.stationed.proofs.Steps.{call-step}
 
 -- ---- calls one after the other

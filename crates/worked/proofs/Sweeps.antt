@@ -9,7 +9,6 @@ use lib.ListN.{length, take, drop}
 use lib.Seq.{drop-drop}
 use lib.Dec.{eqb}
 use borrow.Author.Tests.{eqb-true, le-ltb}
-use Rattle.ground.specs.Range.{allBelow}
 use Rattle.ground.proofs.Ranges.{all-intro, lt-or-le}
 use Rattle.little.specs.Little.{little, part}
 use Rattle.kind.specs.Kind.{rows, lengthsOk}

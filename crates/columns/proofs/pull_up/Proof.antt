@@ -4,7 +4,7 @@ use mathlib.Core.Path.{_≡_, refl, sym, _∙_}
 use Prim.Native.Nat.{_+_, _-_, _≤_}
 use native.Mathlib.Omega.{arith}
 use lib.ListN.{length}
-use Rattle.columns.proofs.Columns.{pull, pull-up, pull-zero, pull-end, pull-long, pull-without}
+use Rattle.columns.proofs.Columns.{pull, pull-up, pull-zero, pull-end, pull-without}
 use borrow.Author.Needs.{needs}
 use Rattle.columns.proofs.pull_up.Statement.{statement}
 use Rattle.columns.proofs.pull_up.Tie as tie

@@ -1,6 +1,6 @@
 -- `station::chirimok_begin` meets its contract: the call of the desk that the words say, and the desk's words. Assumes nothing.
 use Prim.Native.Nat.{ℕ}
-use mathlib.Core.Path.{_≡_, ap, _∙_}
+use mathlib.Core.Path.{ap, _∙_}
 use mathlib.Core.List.{List, [], _∷_}
 use Rattle.kind.specs.Areas.{areas}
 use Rattle.turns.proofs.Promises.{begin-refused}

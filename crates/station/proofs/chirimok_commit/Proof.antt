@@ -1,6 +1,6 @@
 -- `station::chirimok_commit` meets its contract: the call of the desk that the words say, and the desk's words. Assumes nothing.
 use Prim.Native.Nat.{ℕ}
-use mathlib.Core.Path.{_≡_, refl, ap, _∙_}
+use mathlib.Core.Path.{refl, ap, _∙_}
 use mathlib.Core.List.{List, []}
 use Rattle.kind.specs.Areas.{areas}
 use Rattle.turns.proofs.Promises.{commit-refused-leaves}
