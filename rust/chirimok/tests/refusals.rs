@@ -1,7 +1,7 @@
 //! The wrapper's own types: refusal numbers and the desk's accessors.
 
 use chirimok::limits::{PAGE, WORDS};
-use chirimok::{Refusal, Session, Store};
+use chirimok::{Refusal, Row, Session, Store};
 
 #[test]
 fn refusals_have_the_numbers_of_document_01() {
@@ -32,18 +32,25 @@ fn a_desk_shows_its_sessions() {
     assert_eq!(sessions, [(session(3), 2, &[][..]), (session(5), 7, &[3][..])]);
 }
 
+/// A store of its own areas, in which a session that is open has inserted a row.
+fn written() -> (Store<Vec<u8>>, Session, Row) {
+    let [data, undo, status] = [(); 3].map(|()| vec![0; PAGE]);
+    let mut store = Store::format(data, undo, status).expect("format");
+    let writer = store.begin().expect("begin");
+    let row = store.insert(writer, &[7; 32]).expect("insert");
+    (store, writer, row)
+}
+
 /// What goes wrong with words that are not the last, as [`Store::from_kept_words`] warns: every call
 /// is accepted, and a row is lost.
 #[test]
 fn words_from_before_a_commit_lose_its_rows() {
-    let [mut data, mut undo, mut status] = [[0; PAGE]; 3];
-    let mut store = Store::format(&mut data, &mut undo, &mut status).expect("format");
-    let writer = store.begin().expect("begin");
-    let row = store.insert(writer, &[7; 32]).expect("insert");
+    let (mut store, writer, row) = written();
     let words = *store.desk().words();
     store.commit(writer).expect("commit");
 
-    let mut store = Store::from_kept_words(&mut data, &mut undo, &mut status, words);
+    let [data, undo, status] = store.into_areas();
+    let mut store = Store::from_kept_words(data, undo, status, words);
     store.withdraw(writer).expect("withdraw");
     let reader = store.begin().expect("begin");
     assert_eq!(store.read(reader, row), Err(Refusal::NoVersion));
@@ -52,14 +59,12 @@ fn words_from_before_a_commit_lose_its_rows() {
 /// A sealed store that is opened hands out the numbers behind those of its rows.
 #[test]
 fn an_opened_store_keeps_its_rows() {
-    let [mut data, mut undo, mut status] = [[0; PAGE]; 3];
-    let mut store = Store::format(&mut data, &mut undo, &mut status).expect("format");
-    let writer = store.begin().expect("begin");
-    let row = store.insert(writer, &[7; 32]).expect("insert");
+    let (mut store, writer, row) = written();
     store.commit(writer).expect("commit");
     store.seal().expect("seal");
 
-    let mut store = Store::open(&mut data, &mut undo, &mut status).expect("open");
+    let [data, undo, status] = store.into_areas();
+    let mut store = Store::open(data, undo, status).expect("open");
     let other = store.begin().expect("begin");
     assert!(writer < other);
     store.withdraw(other).expect("withdraw");
