@@ -1,15 +1,18 @@
--- Laws of CRC32C: a checksum of two parts is that of the first carried on over the second; it fits 32 bits; and what the
--- loops over bits and bytes compute. Assumes nothing.
+-- Laws of CRC32C: a checksum of two parts is that of the first carried on over the second; it fits 32 bits; eight steps are one
+-- look at the table; and what a loop over bytes computes. Assumes nothing.
 use mathlib.Core.Path.{_≡_, refl, sym, ap, _∙_}
 use mathlib.Core.List.{List, [], _∷_, _++_}
-use Prim.Native.Nat.{ℕ, zero, suc, _+_, _/_, _%_, _^_, _-_, _<_, _≤_}
+use Prim.Native.Nat.{ℕ, zero, suc, _+_, _*_, _/_, _%_, _^_, _<_, _≤_}
+use native.Mathlib.Nat.{pow-suc, mul-assoc, mul-one, add-zero, zero-add, add-suc, suc-add, le-of-suc-le-suc, not-suc-le-zero}
 use native.Mathlib.Numerals.{add-one}
 use native.Mathlib.Omega.{arith}
 use lib.Bits.{bitXor, xor-lt}
 use lib.ListN.{length, getD, drop, drop-of-length-le}
 use lib.Seq.{drop-cons}
 use Rattle.crc.specs.Crc.{poly, filled, stepBy, step, steps, byteStep, run, crcMore, crcOf}
-use Rattle.crc.proofs.XorLaws.{xor-twice}
+use Rattle.crc.specs.Table.{tabFrom, stepTable}
+use Rattle.crc.specs.declared.Four.{Four}
+use Rattle.crc.proofs.XorLaws.{xor-half, xor-odd, xor-swap, xor-twice, xor-parts}
 
 -- ---- a list in two parts
 
@@ -63,51 +66,91 @@ crcMore-below c l h bytes =
 pub crc-below : (l : List ℕ) → ((i : ℕ) → i < length l → getD l i 0 < 256) → crcOf l < 2 ^ 32
 crc-below l bytes = crcMore-below 0 l (omega arith) bytes
 
--- ---- a step, as the program works it
+-- ---- a byte at a time
 
-pub step-even : (c : ℕ) → c % 2 ≡ 0 → c / 2 ≡ step c
-unfolding step stepBy
-step-even c e = sym (ap (λ (n : ℕ). stepBy n (c / 2)) e)
+stepBy-xor : (n h t : ℕ) → stepBy n (bitXor h t) ≡ bitXor (stepBy n h) t
+unfolding stepBy
+stepBy-xor zero h t = refl
+stepBy-xor (suc n) h t = xor-swap h t poly
 
-pub step-odd : (c : ℕ) → (c % 2 ≡ 0 → ⊥) → bitXor (c / 2) poly ≡ step c
-unfolding step stepBy
-step-odd c ne = let e : c % 2 ≡ 1 = omega arith in sym (ap (λ (n : ℕ). stepBy n (c / 2)) e)
+step-xor : (s t : ℕ) → step (bitXor s (t * 2)) ≡ bitXor (step s) t
+unfolding step
+step-xor s t =
+    let odd : bitXor s (t * 2) % 2 ≡ s % 2 = xor-odd s (t * 2) ∙ omega arith in
+    let half : bitXor s (t * 2) / 2 ≡ bitXor (s / 2) t = xor-half s (t * 2) ∙ ap (bitXor (s / 2)) (omega arith) in
+    ap (λ (n : ℕ). stepBy n (bitXor s (t * 2) / 2)) odd ∙ ap (stepBy (s % 2)) half ∙ stepBy-xor (s % 2) (s / 2) t
 
--- ---- a loop of n steps: a turn, and where it ends
-
-pub steps-next : (n k x : ℕ) → k < n → steps (n - (k + 1)) (step x) ≡ steps (n - k) x
+-- what lies above the n low digits is only shifted
+steps-xor : (n s y : ℕ) → steps n (bitXor s (y * 2 ^ n)) ≡ bitXor (steps n s) y
 unfolding steps
-steps-next n k x h = let e : suc (n - (k + 1)) ≡ n - k = omega arith in ap (λ (m : ℕ). steps m x) e
+steps-xor zero s y = ap (bitXor s) (mul-one y)
+steps-xor (suc n) s y =
+    let e : y * 2 ^ suc n ≡ y * 2 ^ n * 2 = ap (λ (x : ℕ). y * x) (pow-suc 2 n) ∙ sym (mul-assoc y (2 ^ n) 2) in
+    ap (λ (x : ℕ). steps n (step (bitXor s x))) e ∙ ap (steps n) (step-xor s (y * 2 ^ n)) ∙ steps-xor n (step s) y
 
-pub steps-done : (n k x : ℕ) → n ≤ k → steps (n - k) x ≡ x
-unfolding steps
-steps-done n k x h = let e : n - k ≡ 0 = omega arith in ap (λ (m : ℕ). steps m x) e
+steps-byte : (x : ℕ) → steps 8 x ≡ bitXor (steps 8 (x % 256)) (x / 256)
+steps-byte x = ap (steps 8) (xor-parts x 8) ∙ steps-xor 8 (x % 256) (x / 256)
+
+tab-from : (f : ℕ → ℕ) (n i k : ℕ) → k < n → getD (tabFrom f i n) k 0 ≡ f (i + k)
+unfolding tabFrom
+tab-from f zero i k h = absurd (not-suc-le-zero h)
+tab-from f (suc n) i zero h = ap f (sym (add-zero i))
+tab-from f (suc n) i (suc k) h = tab-from f n (suc i) k (le-of-suc-le-suc h) ∙ ap f (suc-add i k ∙ sym (add-suc i k))
+
+-- the table's rule, at each of its places
+pub stepTable-at : (i : ℕ) → i < 256 → getD stepTable i 0 ≡ steps 8 i
+unfolding stepTable
+stepTable-at i h = tab-from (steps 8) 256 0 i h ∙ ap (steps 8) (zero-add i)
+
+-- one look at the table is a byte
+pub byteStep-by : (t : List ℕ) (c b : ℕ) → t ≡ stepTable → bitXor (getD t (bitXor c b % 256) 0) (bitXor c b / 256) ≡ byteStep c b
+unfolding byteStep
+byteStep-by t c b e =
+    ap (λ (x : ℕ). bitXor x (bitXor c b / 256))
+    (ap (λ (l : List ℕ). getD l (bitXor c b % 256) 0) e ∙ stepTable-at (bitXor c b % 256) (omega arith))
+    ∙ sym (steps-byte (bitXor c b))
 
 -- ---- a loop over the bytes of a list
 
--- what is known at its head: the register c, at the place i, comes over the rest to what the whole list comes to
-pub record Going (crc : ℕ) (s : List ℕ) (i c : ℕ) : Type 0 where
+-- what is known at its head: the register c, at the place i, comes over the rest to what c₀ comes to over the whole list
+pub record Going (c₀ : ℕ) (s : List ℕ) (i c : ℕ) : Type 0 where
   pub within : i ≤ length s
-  pub rest : run c (drop i s) ≡ run (bitXor crc filled) s
+  pub small : c < 2 ^ 32
+  pub rest : run c (drop i s) ≡ run c₀ s
 
-pub going-start : (crc : ℕ) (s : List ℕ) → Going crc s 0 (bitXor crc filled)
-going-start crc s = record { within = omega arith; rest = refl }
+pub going-start : (c₀ : ℕ) (s : List ℕ) → c₀ < 2 ^ 32 → Going c₀ s 0 c₀
+going-start c₀ s h = record { within = omega arith; small = h; rest = refl }
 
-pub going-next : (crc : ℕ) (s : List ℕ) (i c r : ℕ)
-    → Going crc s i c
+pub going-next : {c₀ i c r : ℕ} (s : List ℕ)
+    → Going c₀ s i c
     → i < length s
-    → r ≡ byteStep c (getD s i 0)
-    → Going crc s (i + 1) r
+    → (r ≡ byteStep c (getD s i 0)) × (r < 2 ^ 32)
+    → Going c₀ s (i + 1) r
 unfolding run
-going-next crc s i c r g h e =
+going-next {c₀} {i} {c} {r} s g h (e, l) =
     record {
       within = omega arith;
+      small = l;
       rest =
           ap (λ (x : ℕ). run x (drop (i + 1) s)) e
           ∙ sym (ap (run c) (drop-cons s i 0 h ∙ ap (λ (n : ℕ). getD s i 0 ∷ drop n s) (sym (add-one i))))
           ∙ g .rest;
     }
 
-pub going-end : (crc : ℕ) (s : List ℕ) (i c : ℕ) → Going crc s i c → length s ≤ i → bitXor c filled ≡ crcMore crc s
+-- behind the last byte, for the checksum from which c₀ was made and the one that is made of c
+pub going-end : {c₀ i c r : ℕ} (crc : ℕ) (s : List ℕ)
+    → Going c₀ s i c
+    → length s ≤ i
+    → c₀ ≡ bitXor crc filled
+    → r ≡ bitXor c filled
+    → r ≡ crcMore crc s
 unfolding run crcMore
-going-end crc s i c g h = ap (λ (x : ℕ). bitXor x filled) (sym (ap (run c) (drop-of-length-le s h)) ∙ g .rest)
+going-end {c₀} {i} {c} crc s g h e q =
+    q ∙ ap (λ (x : ℕ). bitXor x filled) (sym (ap (run c) (drop-of-length-le s h)) ∙ g .rest ∙ ap (λ (x : ℕ). run x s) e)
+
+-- ---- four runs abreast
+
+-- four checksums are what each of them is
+pub four-eq : {a b c d a′ b′ c′ d′ : ℕ} → a ≡ a′ → b ≡ b′ → c ≡ c′ → d ≡ d′
+    → _≡_ {A = Four} (record { first = a; second = b; third = c; fourth = d }) (record { first = a′; second = b′; third = c′; fourth = d′ })
+four-eq ea eb ec ed = rw (ea, eb, ec, ed)

@@ -1,10 +1,12 @@
--- Laws of `^` that the logic's library lacks: the half, the low digit, the order of three. Assumes nothing.
+-- Laws of `^` that the logic's library lacks: the half, the low digit, the order of three, a number as its low and its high digits. Assumes
+-- nothing.
 use mathlib.Core.Path.{_≡_, refl, sym, ap, _∙_}
-use Prim.Native.Nat.{ℕ, _+_, _/_, _%_}
-use native.Mathlib.Nat.{add-comm}
+use Prim.Native.Nat.{ℕ, _+_, _*_, _/_, _%_, _^_}
+use native.Mathlib.Nat.{mod-lt, add-comm}
 use native.Mathlib.Omega.{arith}
 use lib.Arith.{bin-ind}
-use lib.Bits.{bitXor, xor-shr, xor-add-and, xor-self, xor-zero-r}
+use lib.Bits.{bitXor, xor-shr, xor-add-and, xor-comm, xor-self, xor-zero-r, xor-shifted}
+use lib.Pow.{pow-pos, split}
 
 pub xor-half : (a b : ℕ) → bitXor a b / 2 ≡ bitXor (a / 2) (b / 2)
 xor-half a b = xor-shr a b 1
@@ -36,3 +38,12 @@ xor-assoc a =
 -- the same operand twice falls out
 pub xor-twice : (a b : ℕ) → bitXor (bitXor a b) b ≡ a
 xor-twice a b = xor-assoc a b b ∙ ap (bitXor a) (xor-self b) ∙ xor-zero-r a
+
+pub xor-swap : (a b c : ℕ) → bitXor (bitXor a b) c ≡ bitXor (bitXor a c) b
+xor-swap a b c = xor-assoc a b c ∙ ap (bitXor a) (xor-comm b c) ∙ sym (xor-assoc a c b)
+
+-- a number as its k low digits and its high ones
+pub xor-parts : (x k : ℕ) → x ≡ bitXor (x % 2 ^ k) (x / 2 ^ k * 2 ^ k)
+xor-parts x k =
+    sym (split x k) ∙ sym (xor-shifted (x / 2 ^ k) k (x % 2 ^ k) (mod-lt x (pow-pos k)))
+    ∙ xor-comm (x / 2 ^ k * 2 ^ k) (x % 2 ^ k)

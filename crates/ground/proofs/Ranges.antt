@@ -164,14 +164,19 @@ module _ (f : ℕ → Bool) where
   all-intro zero h = refl
   all-intro (suc n) h = rw (all-intro n (λ i l. h i (omega arith)), h n (omega arith))
 
+  -- a test that fails below m fails below every number from m on
+  pub all-short : (m n : ℕ) → m ≤ n → allBelow f m ≡ false → allBelow f n ≡ false
+  unfolding allBelow
+  all-short m zero h e = let z : m ≡ 0 = omega arith in ap (allBelow f) (sym z) ∙ e
+  all-short m (suc n) h e =
+      ⊎-elim
+      (λ (q : m ≡ suc n). ap (allBelow f) (sym q) ∙ e)
+      (λ (l : m < suc n). ap (λ (b : Bool). b && f n) (all-short m n (le-of-suc-le-suc l) e))
+      (eq-or-lt-of-le h)
+
   pub all-fails : (n i : ℕ) → i < n → f i ≡ false → allBelow f n ≡ false
   unfolding allBelow
-  all-fails zero i h e = absurd (not-suc-le-zero h)
-  all-fails (suc n) i h e =
-      ⊎-elim
-      (λ (q : i ≡ n). ap (λ (b : Bool). allBelow f n && b) (ap f (sym q) ∙ e) ∙ and-false (allBelow f n))
-      (λ (l : i < n). ap (λ (b : Bool). b && f n) (all-fails n i l e))
-      (last-or-below i n h)
+  all-fails n i h e = all-short (suc i) n h (ap (λ (b : Bool). allBelow f i && b) e ∙ and-false (allBelow f i))
 
 -- ---- two tests that agree below n
 

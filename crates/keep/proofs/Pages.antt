@@ -1,21 +1,22 @@
--- Laws of whole areas, one page at a time: fresh, sealed and right; and of the numbers handed out. Assumes nothing.
-use mathlib.Core.Path.{_≡_, sym, ap, _∙_}
+-- Laws of whole areas, one page at a time or four: fresh, sealed and right; and of the numbers handed out. Assumes nothing.
+use mathlib.Core.Path.{_≡_, refl, sym, ap, _∙_}
 use mathlib.Core.List.{List, _++_}
 use mathlib.Core.Bool.{Bool, true, false, _&&_, and-true, and-false}
 use Prim.Native.Nat.{ℕ, _+_, _*_, _-_, _≤_, _<_}
 use native.Mathlib.Numerals.{add-one}
 use native.Mathlib.Omega.{arith}
 use lib.ListN.{length, take, drop, length-append}
-use lib.Seq.{sets, sets-eq, length-take-le, take-at, take-all}
+use lib.Seq.{sets, sets-eq, length-take-le, take-at}
 use lib.Dec.{leb}
 use borrow.Author.Tests.{leb-true, le-leb, lt-leb}
+use Rattle.ground.specs.Range.{allBelow}
 use Rattle.ground.proofs.Ranges.{and-true-left, and-true-right}
 use Rattle.kind.specs.declared.Kind.{Kind}
 use Rattle.kind.specs.Kind.{dataKind, undoKind, statusKind}
 use Rattle.kind.specs.Areas.{areas}
-use Rattle.page.specs.Header.{pageAt}
 use Rattle.status.specs.Status.{statusAt}
 use Rattle.whole.specs.Whole.{pageRight, sealedPage, freshPage}
+use Rattle.whole.specs.Abreast.{sealedFour, rightAt}
 use Rattle.page.proofs.Headers.{pageAt-lent}
 use Rattle.whole.proofs.Rights.{length-freshPage}
 use Rattle.keep.specs.Whole.{freshArea, sealedArea, areaRight, highest, ended, allEnded, storeRight}
@@ -40,23 +41,39 @@ freshArea-more k p s h e q =
     ∙ ap (λ (l : List ℕ). l ++ freshPage k (p + 1)) e
     ∙ rw (add-one p)
 
--- all pages
-pub freshArea-all : (k : Kind) (n p : ℕ) (s : List ℕ) → p ≡ n → length s ≡ n * 8192 → take (p * 8192) s ≡ freshArea k p → s ≡ freshArea k n
-freshArea-all k n p s e l q = sym (take-all (p * 8192) s (omega arith)) ∙ q ∙ ap (freshArea k) e
-
 -- ---- sealed
 
--- one page more: s is the area with p pages sealed, y the same after the next
-pub sealedArea-more : {y : List ℕ} (p : ℕ) (s₀ s : List ℕ) → s ≡ sealedArea p s₀ → y ≡ sealedPage p s → y ≡ sealedArea (p + 1) s₀
+-- one page more: s is the area with p pages sealed, y the same after the next; and four pages more
+pub sealedArea-more : {y : List ℕ} (p q : ℕ) (s₀ s : List ℕ) → q ≡ p + 1 → s ≡ sealedArea p s₀ → y ≡ sealedPage p s → y ≡ sealedArea q s₀
 unfolding sealedArea
-sealedArea-more p s₀ s e q = q ∙ ap (sealedPage p) e ∙ rw (add-one p)
+sealedArea-more p q s₀ s n e w = w ∙ ap (sealedPage p) e ∙ ap (λ (m : ℕ). sealedArea m s₀) (sym (n ∙ add-one p))
+
+pub sealedArea-four : {y : List ℕ} (p : ℕ) (s₀ s : List ℕ) → s ≡ sealedArea p s₀ → y ≡ sealedFour p s → y ≡ sealedArea (p + 4) s₀
+sealedArea-four p s₀ s e w =
+    sealedArea-more (p + 3) (p + 4) s₀ (sealedPage (p + 2) (sealedPage (p + 1) (sealedPage p s))) (omega arith) third w
+  where
+    first : sealedPage p s ≡ sealedArea (p + 1) s₀
+    first = sealedArea-more p (p + 1) s₀ s refl e refl
+
+    second : sealedPage (p + 1) (sealedPage p s) ≡ sealedArea (p + 2) s₀
+    second = sealedArea-more (p + 1) (p + 2) s₀ (sealedPage p s) (omega arith) first refl
+
+    third : sealedPage (p + 2) (sealedPage (p + 1) (sealedPage p s)) ≡ sealedArea (p + 3) s₀
+    third = sealedArea-more (p + 2) (p + 3) s₀ (sealedPage (p + 1) (sealedPage p s)) (omega arith) second refl
 
 -- ---- right
 
--- page p of an area of kind k is right, and number i + 1 has ended
-abbrev pub rightAt : Kind → List ℕ → ℕ → Bool
-rightAt k s p = pageRight k (p + 1) (pageAt p s)
+-- a test more, and four of them behind those that hold
+all-next : (f : ℕ → Bool) (i n : ℕ) → n ≡ i + 1 → allBelow f n ≡ (allBelow f i && f i)
+unfolding allBelow
+all-next f i n h = ap (allBelow f) (h ∙ add-one i)
 
+pub all-four : (f : ℕ → Bool) (p : ℕ) → allBelow f p ≡ true → allBelow f (p + 4) ≡ (f p && f (p + 1) && f (p + 2) && f (p + 3))
+all-four f p e =
+    rw (all-next f (p + 3) (p + 4) (omega arith), all-next f (p + 2) (p + 3) (omega arith), all-next f (p + 1) (p + 2) (omega arith), all-next f p (p + 1) refl, e)
+    (refl)
+
+-- number i + 1 has ended
 abbrev pub endedAt : List ℕ → ℕ → Bool
 endedAt s i = ended (statusAt (i + 1) s)
 

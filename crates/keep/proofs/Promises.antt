@@ -159,7 +159,7 @@ pub length-sealedArea : (n : ℕ) (s : List ℕ) → length (sealedArea n s) ≡
 length-sealedArea = sealedArea-keeps length length-sealedPage
 
 -- the pages that are not sealed yet, and those that are
-pageAt-sealedArea-above : (n p : ℕ) (s : List ℕ) → n ≤ p → pageAt p (sealedArea n s) ≡ pageAt p s
+pub pageAt-sealedArea-above : (n p : ℕ) (s : List ℕ) → n ≤ p → pageAt p (sealedArea n s) ≡ pageAt p s
 unfolding sealedArea
 pageAt-sealedArea-above zero p s h = refl
 pageAt-sealedArea-above (suc n) p s h =

@@ -42,9 +42,10 @@ fn format_area(s: &mut [u8], k: Kind)
     let n = kind::pages(s);
     let mut p = 0;
     while p < n {
-        whole::fresh_page(s, p, k);
+        whole::blank_page(s, p, k);
         p += 1;
     }
+    seal_area(s);
 }
 
 // Writes the three areas as an empty store.
@@ -63,15 +64,20 @@ pub fn format(data: &mut [u8], undo: &mut [u8], status: &mut [u8]) -> Opened
     }
 }
 
-// Writes the checksum of every page of an area.
+// Writes the checksum of every page of an area, of four pages at once where so many are left.
 fn seal_area(s: &mut [u8])
     ensures { λ _. ⌜ now (s .exit) ≡ sealedArea (pages (now (s .entry))) (now (s .entry)) ⌝ }
 {
     let n = kind::pages(s);
     let mut p = 0;
     while p < n {
-        whole::seal_page(s, p);
-        p += 1;
+        if 4 <= n - p {
+            whole::seal_four(s, p);
+            p += 4;
+        } else {
+            whole::seal_page(s, p);
+            p += 1;
+        }
     }
 }
 
@@ -94,7 +100,7 @@ pub fn seal(data: &mut [u8], undo: &mut [u8], status: &mut [u8], desk: &Words) -
     Answer::Done
 }
 
-// Whether every page of an area of kind k is right.
+// Whether every page of an area of kind k is right, four pages at once where so many are left.
 fn area_right(s: &[u8], k: Kind) -> bool
     requires { ⌜ (pages (now s) ≤ 65536) × Roomy k ⌝ }
     ensures { λ r. ⌜ r ≡ areaRight k (now (s .entry)) ⌝ }
@@ -102,12 +108,19 @@ fn area_right(s: &[u8], k: Kind) -> bool
     let n = kind::pages(s);
     let mut p = 0;
     while p < n {
-        let at = p * Kind::PAGE;
-        let end = at + Kind::PAGE;
-        if !whole::is_right(&s[at..end], (p + 1) as u32, k) {
-            return false;
+        if 4 <= n - p {
+            if !whole::four_right(s, p, k) {
+                return false;
+            }
+            p += 4;
+        } else {
+            let at = p * Kind::PAGE;
+            let end = at + Kind::PAGE;
+            if !whole::is_right(&s[at..end], (p + 1) as u32, k) {
+                return false;
+            }
+            p += 1;
         }
-        p += 1;
     }
     true
 }

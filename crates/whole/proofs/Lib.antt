@@ -1,3 +1,4 @@
 pub mod Wholes
 pub mod Headers
 pub mod Rights
+pub mod Abreast

@@ -1,24 +1,23 @@
 -- Laws of whole pages: what the stores of format and seal make of an area. Assumes nothing.
-use mathlib.Core.Path.{_≡_, refl, sym, ap, _∙_}
+use mathlib.Core.Path.{_≡_, refl, sym, ap, ap₂, _∙_}
 use mathlib.Core.List.{List}
 use mathlib.Core.Bool.{_&&_, and-assoc, and-true}
-use Prim.Native.Nat.{ℕ, _+_, _*_, _-_, _≤_}
+use Prim.Native.Nat.{ℕ, _+_, _*_, _-_, _≤_, _<_}
 use native.Mathlib.Omega.{arith}
-use lib.ListN.{length, take, drop, replicate, length-append, length-replicate}
+use lib.ListN.{length, replicate, length-append, length-replicate}
 use lib.Seq.{sets, length-sets}
 use lib.Dec.{eqb}
 use borrow.Author.Tests.{eq-eqb}
 use Rattle.little.specs.Little.{little, digits, part, bytesOf, holds}
 use Rattle.little.proofs.Digits.{length-digits}
-use Rattle.little.proofs.Parts.{part-sets, sets-sets-inside}
+use Rattle.little.proofs.Parts.{part-sets, part-sets-below, sets-sets-inside, sets-part}
 use Rattle.little.proofs.Fields.{length-bytesOf}
 use Rattle.crc.specs.Crc.{crcOf, crcMore}
 use Rattle.crc.proofs.CrcLaws.{crc-append}
 use Rattle.kind.specs.declared.Kind.{Kind}
-use Rattle.page.specs.Header.{header, pageAt, putField}
+use Rattle.page.specs.Header.{header, pageAt, checksum, putField}
 use Rattle.whole.specs.Whole.{checksumOf, pageRight, sealedPage, blankPage, freshPage}
 use Rattle.page.specs.Count.{itemsIn}
-use Rattle.page.proofs.Headers.{pageAt-lent}
 
 pub length-blankPage : (k : Kind) (id : ℕ) → length (blankPage k id) ≡ 8192
 unfolding blankPage
@@ -30,6 +29,11 @@ pub pageAt-sets : (p : ℕ) (s page : List ℕ) → length page ≡ 8192 → p *
 unfolding pageAt
 pageAt-sets p s page e h =
     ap (λ (n : ℕ). part (p * 8192) n (sets s (p * 8192) page)) (sym e) ∙ part-sets s (p * 8192) page (omega arith)
+
+-- and the pages before it are what they were
+pub pageAt-sets-before : (p q : ℕ) (s page : List ℕ) → q < p → pageAt q (sets s (p * 8192) page) ≡ pageAt q s
+unfolding pageAt
+pageAt-sets-before p q s page l = part-sets-below (q * 8192) 8192 s (p * 8192) page (omega arith)
 
 -- a blank page is zeros with five fields stored
 blankPage-sets : (k : Kind) (id : ℕ)
@@ -91,34 +95,38 @@ pub blank-stores : {y₀ y₁ y₂ y₃ y₄ y₅ : List ℕ} (s : List ℕ) (at
 blank-stores s at k id e₀ e₁ e₂ e₃ e₄ e₅ =
     five-stores s at (replicate 8192 0) k id (length-replicate {A = ℕ} 8192 0) e₀ e₁ e₂ e₃ e₄ e₅ ∙ ap (sets s at) (sym (blankPage-sets k id))
 
--- the store of a checksum: x is what was computed, y what the area then is
-pub sealedPage-store : {y : List ℕ} (p : ℕ) (s : List ℕ) (x : ℕ)
-    → x ≡ checksumOf (take (p * 8192 + 8192 - p * 8192) (drop (p * 8192) s))
-    → y ≡ sets s (p * 8192 + 20) (digits 4 x)
+-- a checksum written: x was computed of page p of the area s₀, and is written into s, where that page is the same; y is what s then is
+pub sealedPage-put : {x : ℕ} {y : List ℕ} (p : ℕ) (s₀ s : List ℕ)
+    → x ≡ checksumOf (pageAt p s₀)
+    → pageAt p s ≡ pageAt p s₀
+    → y ≡ putField checksum p x s
     → y ≡ sealedPage p s
-unfolding sealedPage putField
-sealedPage-store p s x h q = q ∙ ap (λ (v : ℕ). sets s (p * 8192 + 20) (digits 4 v)) (h ∙ ap checksumOf (pageAt-lent p s))
+unfolding sealedPage
+sealedPage-put p s₀ s h e q = q ∙ ap (λ (v : ℕ). putField checksum p v s) (h ∙ ap checksumOf (sym e))
 
--- a blank page stored, and sealed where it lies, is a fresh one stored
-pub sealedPage-blankPage : {y z : List ℕ} (p : ℕ) (s : List ℕ) (k : Kind) (id : ℕ) → p * 8192 + 8192 ≤ length s
-    → y ≡ sets s (p * 8192) (blankPage k id)
-    → z ≡ sealedPage p y
-    → z ≡ sets s (p * 8192) (freshPage k id)
-unfolding sealedPage putField freshPage
-sealedPage-blankPage p s k id h e q =
-    q
-    ∙ ap (sealedPage p) e
-    ∙ ap (λ (page : List ℕ). sets (sets s (p * 8192) (blankPage k id)) (p * 8192 + 20) (digits 4 (checksumOf page)))
-    (pageAt-sets p s (blankPage k id) (length-blankPage k id) h)
-    ∙ stored-field s (p * 8192) 20 4 (checksumOf (blankPage k id)) (omega arith) refl (record { is = refl; long = length-blankPage k id }) .is
+-- a blank page, sealed where it lies, is a fresh one stored there
+pub sealedPage-blank : (p : ℕ) (s : List ℕ) (k : Kind) (id : ℕ) → p * 8192 + 8192 ≤ length s
+    → pageAt p s ≡ blankPage k id
+    → sealedPage p s ≡ sets s (p * 8192) (freshPage k id)
+unfolding sealedPage putField freshPage pageAt
+sealedPage-blank p s k id h e =
+    ap (λ (page : List ℕ). sets s (p * 8192 + 20) (digits 4 (checksumOf page))) e
+    ∙ stored-field s (p * 8192) 20 4 (checksumOf (blankPage k id)) (omega arith) refl
+    (record { is = sym (sets-part (p * 8192) 8192 s h) ∙ ap (sets s (p * 8192)) e; long = length-blankPage k id })
+    .is
 
 -- ---- the checksum
 
 -- of the front, carried on over the rest
-pub checksumOf-more : (page : List ℕ) (c r : ℕ) → c ≡ crcOf (take 20 (drop 0 page)) → r ≡ crcMore c (take 8168 (drop 24 page)) → r ≡ checksumOf page
-unfolding checksumOf part
-checksumOf-more page c r e h =
-    h ∙ ap (λ (x : ℕ). crcMore x (take 8168 (drop 24 page))) e ∙ sym (crc-append (take 20 (drop 0 page)) (take 8168 (drop 24 page)))
+pub checksumOf-more : {c r : ℕ} {x y : List ℕ} (page : List ℕ)
+    → x ≡ part 0 20 page
+    → y ≡ part 24 8168 page
+    → c ≡ crcOf x
+    → r ≡ crcMore c y
+    → r ≡ checksumOf page
+unfolding checksumOf
+checksumOf-more {c} {r} {x} {y} page ex ey ec er =
+    er ∙ ap₂ crcMore (ec ∙ ap crcOf ex) ey ∙ sym (crc-append (part 0 20 page) (part 24 8168 page))
 
 -- ---- a right page
 

@@ -1,41 +1,30 @@
--- `crc::byte` meets its contract. The loop's invariant: the steps left lead from x to the answer. Assumes nothing.
-use mathlib.Core.Path.{_≡_, refl, sym, ap, _∙_}
-use Prim.Native.Nat.{_-_, _+_, _≤_}
+-- `crc::byte` meets its contract: one look at the table is a byte. Assumes nothing.
+use mathlib.Core.Path.{_≡_, ap, subst, sym, _∙_}
+use Prim.Native.Nat.{ℕ, _/_, _<_, _^_}
+use lib.Bits.{bitXor}
 use borrow.Author.Needs.{needs}
-use Rattle.crc.specs.Crc.{steps, byteStep}
-use Rattle.crc.proofs.CrcLaws.{steps-next, steps-done}
+use Rattle.crc.specs.Crc.{byteStep}
+use Rattle.crc.proofs.CrcLaws.{byteStep-by, byteStep-below}
 use Rattle.crc.proofs.byte.Statement.{statement}
 use Rattle.crc.proofs.byte.Tie as tie
 
-abbrev Inv-loop : tie.InvT-loop
-Inv-loop c b x₀ k₀ x k = (k ≤ 8) × (steps (8 - k) x ≡ byteStep c b)
+mul-wide : tie.Need-mul-wide
+mul-wide c = search needs
 
-abbrev μ-loop : tie.MeasureT-loop
-μ-loop c b x₀ k₀ x k = 8 - k
+element-copy-out-wide : tie.Need-element-copy-out-wide
+element-copy-out-wide c = search needs
 
-loop-holds : tie.Need-loop-holds Inv-loop μ-loop
-unfolding byteStep
-loop-holds c = (search needs, refl)
+wide-requires : tie.Need-wide-requires
+wide-requires c κs = search needs
 
-bit-requires : tie.Need-bit-requires Inv-loop μ-loop
-bit-requires c κs = search needs
-
-add-k : tie.Need-add-k Inv-loop μ-loop
-add-k c = search needs
-
-loop-less : tie.Need-loop-less Inv-loop μ-loop
-loop-less c = search needs
-
-loop-again : tie.Need-loop-again Inv-loop μ-loop
-loop-again c =
-    let l = c .before .before .loop in (
-      search needs,
-      ap (steps (8 - (l .k + 1))) (c .bit .ensures) ∙ steps-next 8 (l .k) (l .x) (search needs) ∙ l .inv .1,
-    )
-
-returns : tie.Need-returns Inv-loop μ-loop
-returns c = sym (steps-done 8 (c .before .loop .k) (c .before .loop .x) (search needs)) ∙ c .before .loop .inv .1
+returns : tie.Need-returns
+returns c =
+    let start = c .before .before in
+    let reg = start .args .c in
+    let b = start .args .b in
+    let e : bitXor (c .wide .result) (bitXor reg b / 256) ≡ byteStep reg b =
+    ap (λ (x : ℕ). bitXor x (bitXor reg b / 256)) (c .wide .ensures) ∙ byteStep-by _ reg b (start .pre .0) in
+    (e, subst (λ (x : ℕ). x < 2 ^ 32) (sym e) (byteStep-below reg b (start .pre .1) (search needs)))
 
 pub byte-spec : {M : Type 1} → statement M
-byte-spec =
-    tie.close (tie.spec Inv-loop μ-loop loop-holds bit-requires add-k loop-less loop-again returns)
+byte-spec = tie.close (tie.spec mul-wide element-copy-out-wide wide-requires returns)

@@ -1,5 +1,8 @@
 -- `whole::seal_page` meets its contract. Assumes nothing.
-use Rattle.whole.proofs.Wholes.{sealedPage-store}
+use mathlib.Core.Path.{refl, ap, _∙_}
+use Rattle.page.proofs.Headers.{pageAt-lent}
+use Rattle.whole.specs.Whole.{checksumOf}
+use Rattle.whole.proofs.Wholes.{sealedPage-put}
 use borrow.Author.Needs.{needs}
 use Rattle.whole.proofs.seal_page.Statement.{statement}
 use Rattle.whole.proofs.seal_page.Tie as tie
@@ -22,11 +25,8 @@ part-checksum-end c = search needs
 checksum-requires : tie.Need-checksum-requires
 checksum-requires c κs = search needs
 
-add-put4 : tie.Need-add-put4
-add-put4 c = search needs
-
-put4-requires : tie.Need-put4-requires
-put4-requires c κs = search needs
+put-checksum-requires : tie.Need-put-checksum-requires
+put-checksum-requires c κs = search needs
 
 same-length : tie.Need-same-length
 same-length c = search needs
@@ -34,8 +34,9 @@ same-length c = search needs
 returns : tie.Need-returns
 returns c =
     let put = c .before .before in
-    let got = put .before .before in
-    sealedPage-store _ _ _ (got .checksum .ensures) (put .put4 .ensures)
+    let start = put .before .before .before .before .before .before in
+    sealedPage-put (start .args .p) _ _ (put .before .before .checksum .ensures ∙ ap checksumOf (pageAt-lent (start .args .p) (start .args .s .now))) refl
+    (put .put-checksum .ensures)
 
 pub seal-page-spec : {M : Type 1} → statement M
 seal-page-spec =
@@ -47,7 +48,6 @@ seal-page-spec =
     part-checksum-start
     part-checksum-end
     checksum-requires
-    add-put4
-    put4-requires
+    put-checksum-requires
     same-length
     returns)

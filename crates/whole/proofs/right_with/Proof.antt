@@ -1,12 +1,9 @@
--- `whole::is_right` meets its contract: it makes the tests of the header. Assumes nothing.
+-- `whole::right_with` meets its contract: it makes the tests of the header. Assumes nothing.
 use native.Mathlib.Omega.{arith}
 use Rattle.whole.proofs.Wholes.{pageRight-read}
 use borrow.Author.Needs.{needs}
-use Rattle.whole.proofs.is_right.Statement.{statement}
-use Rattle.whole.proofs.is_right.Tie as tie
-
-checksum-requires : tie.Need-checksum-requires
-checksum-requires c κs = search needs
+use Rattle.whole.proofs.right_with.Statement.{statement}
+use Rattle.whole.proofs.right_with.Tie as tie
 
 items-requires : tie.Need-items-requires
 items-requires c κs = search needs
@@ -48,18 +45,18 @@ get1-requires-2 : tie.Need-get1-requires-2
 get1-requires-2 c κs = search needs
 
 get1-requires-3 : tie.Need-get1-requires-3
-get1-requires-3 c κs = omega (arith, c .before .before .before .before .before .before .before .before .before .before .before .before .before .before .before .before .before .before .pre)
+get1-requires-3 c κs = omega (arith, c .before .before .before .before .before .before .before .before .before .before .before .before .before .before .before .before .before .pre .0)
 
 get1-requires-4 : tie.Need-get1-requires-4
-get1-requires-4 c κs = omega (arith, c .before .before .before .before .before .before .before .before .before .before .before .before .before .before .before .before .before .before .before .pre)
+get1-requires-4 c κs = omega (arith, c .before .before .before .before .before .before .before .before .before .before .before .before .before .before .before .before .before .before .pre .0)
 
 returns : tie.Need-returns
 returns c =
     let links = c .before .before .before .before .before .before .before .before .before .before .before in
     let first = links .before .before .before .before .before in
-    let start = first .before .before .before .before in
+    let start = first .before .before .before in
     pageRight-read (start .args .k) (start .args .id) (start .args .page .now)
-    (first .before .before .checksum .ensures)
+    (start .pre .2)
     (first .before .items .ensures)
     (first .get8 .ensures)
     (links .before .before .before .before .get4 .ensures)
@@ -76,11 +73,10 @@ returns c =
     (c .before .get13 .ensures)
     (c .get14 .ensures)
 
-pub is-right-spec : {M : Type 1} → statement M
-is-right-spec =
+pub right-with-spec : {M : Type 1} → statement M
+right-with-spec =
     tie.close
     (tie.spec
-    checksum-requires
     items-requires
     get8-requires
     get4-requires
