@@ -33,6 +33,8 @@ enum Calls {
     Sweep { rows: u64 },
     Seal,
     Open,
+    Format,
+    Look,
 }
 
 impl Calls {
@@ -52,6 +54,8 @@ impl Calls {
             Self::Sweep { rows } => return engine.sweep(rows),
             Self::Seal => engine.seal(),
             Self::Open => engine.open(),
+            Self::Format => engine.format(),
+            Self::Look => return engine.look(),
         }
         0
     }
@@ -122,11 +126,17 @@ fn sweeps(pages: usize) -> [Case; 2] {
     ]
 }
 
-fn days(pages: usize) -> [Case; 2] {
+/// The calls that run over every byte, and what it takes to read every byte and no more.
+fn days(pages: usize) -> [Case; 4] {
     let mut stock = Stock::versions(pages, 0);
     let seal = Case::new("seal", &stock, Calls::Seal, 1);
     stock.engine.seal();
-    [seal, Case::new("open", &stock, Calls::Open, 1)]
+    [
+        seal,
+        Case::new("open", &stock, Calls::Open, 1),
+        Case::new("format", &stock, Calls::Format, 1),
+        Case::new("every byte read", &stock, Calls::Look, 1),
+    ]
 }
 
 /// What one call takes each engine, at one size of areas.

@@ -32,6 +32,10 @@ pub trait Engine {
     /// A copy of areas and desk.
     fn lent(&self) -> Lent;
 
+    /// Reads every byte of the areas, and does nothing with them but add them up, eight at a time.
+    fn look(&self) -> u64;
+
+    fn format(&mut self);
     fn open(&mut self);
     fn seal(&mut self);
     fn begin(&mut self) -> u64;
@@ -45,6 +49,12 @@ pub trait Engine {
     fn withdraw(&mut self, session: u64);
     /// Sweeps the first rows and answers the versions removed.
     fn sweep(&mut self, rows: u64) -> u64;
+}
+
+/// All numbers of eight bytes in the areas, added up.
+pub fn added_up(areas: [&[u8]; 3]) -> u64 {
+    let eights = areas.into_iter().flat_map(|area| area.as_chunks::<8>().0);
+    eights.fold(0, |sum, eight| sum.wrapping_add(u64::from_le_bytes(*eight)))
 }
 
 /// A body to write.

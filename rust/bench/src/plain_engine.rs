@@ -2,7 +2,7 @@
 
 use plain::{Area, Desk};
 
-use crate::engine::{Engine, Lent, PAGE};
+use crate::engine::{Engine, Lent, PAGE, added_up};
 
 pub struct PlainEngine {
     data: Vec<u8>,
@@ -15,11 +15,11 @@ impl Engine for PlainEngine {
     const NAME: &'static str = "plain";
 
     fn formatted(pages: usize) -> Self {
-        let (mut data, mut undo) = (vec![0; pages * PAGE], vec![0; pages * PAGE]);
-        let mut status = vec![0; PAGE];
-        let mut desk = Desk::without_sessions(Desk::FIRST_NUMBER);
-        plain::format(&mut data, &mut undo, &mut status, &mut desk).expect("format");
-        Self { data, undo, status, desk }
+        let (data, undo, status) = (vec![0; pages * PAGE], vec![0; pages * PAGE], vec![0; PAGE]);
+        let desk = Desk::without_sessions(Desk::FIRST_NUMBER);
+        let mut engine = Self { data, undo, status, desk };
+        engine.format();
+        engine
     }
 
     fn take(&mut self, lent: &Lent) {
@@ -33,6 +33,15 @@ impl Engine for PlainEngine {
         let Self { data, undo, status, desk } = self;
         let (data, undo, status) = (data.clone(), undo.clone(), status.clone());
         Lent { data, undo, status, desk: desk.words() }
+    }
+
+    fn look(&self) -> u64 {
+        added_up([&self.data, &self.undo, &self.status])
+    }
+
+    fn format(&mut self) {
+        let Self { data, undo, status, desk } = self;
+        plain::format(data, undo, status, desk).expect("format");
     }
 
     fn open(&mut self) {

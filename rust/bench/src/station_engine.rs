@@ -4,7 +4,7 @@ use std::mem;
 
 use chirimok::{Row, Session, Store, limits};
 
-use crate::engine::{Engine, Lent, PAGE};
+use crate::engine::{Engine, Lent, PAGE, added_up};
 
 pub struct StationEngine {
     store: Store<Vec<u8>>,
@@ -38,6 +38,15 @@ impl Engine for StationEngine {
         let [data, undo, status] =
             [self.store.data(), self.store.undo(), self.store.status()].map(<[u8]>::to_vec);
         Lent { data, undo, status, desk: *self.store.desk().words() }
+    }
+
+    fn look(&self) -> u64 {
+        added_up([self.store.data(), self.store.undo(), self.store.status()])
+    }
+
+    fn format(&mut self) {
+        let [data, undo, status] = self.areas();
+        self.store = Store::format(data, undo, status).expect("format");
     }
 
     fn open(&mut self) {

@@ -55,39 +55,34 @@ fn run(engines: [&dyn Engine; 2], seed: u64, tally: &mut Tally) {
     }
 }
 
-/// Makes a call that both engines must answer with this number.
-fn must(pair: &mut Pair<'_>, call: &Call, code: u32) {
-    assert_eq!(pair.must_agree(call).code, code, "{call:?}");
-}
-
 /// Hands out all 32,575 numbers, half committed and half withdrawn; then begin answers 13. The
 /// sealed store opens again, and still hands out none.
 pub fn agree_until_numbers_end(engines: [&dyn Engine; 2]) {
     let mut pair = Pair::new(engines, Store::unformatted(1, 1));
-    must(&mut pair, &Call::Format, 0);
+    pair.must(&Call::Format, 0);
     for session in 1..=32_575 {
-        must(&mut pair, &Call::Begin, 0);
+        pair.must(&Call::Begin, 0);
         let close = match session % 2 {
             0 => Call::Withdraw { session },
             _ => Call::Commit { session },
         };
-        must(&mut pair, &close, 0);
+        pair.must(&close, 0);
     }
-    must(&mut pair, &Call::Begin, 13);
-    must(&mut pair, &Call::Seal, 0);
-    must(&mut pair, &Call::Open, 0);
-    must(&mut pair, &Call::Begin, 13);
+    pair.must(&Call::Begin, 13);
+    pair.must(&Call::Seal, 0);
+    pair.must(&Call::Open, 0);
+    pair.must(&Call::Begin, 13);
 }
 
 /// Takes a session through all its statements; then next answers 14 (P11 and P12).
 pub fn agree_until_statements_end(engines: [&dyn Engine; 2]) {
     let mut pair = Pair::new(engines, Store::unformatted(1, 1));
-    must(&mut pair, &Call::Format, 0);
-    must(&mut pair, &Call::Begin, 0);
-    must(&mut pair, &Call::Insert { session: 1, body: vec![7; 32] }, 0);
+    pair.must(&Call::Format, 0);
+    pair.must(&Call::Begin, 0);
+    pair.must(&Call::Insert { session: 1, body: vec![7; 32] }, 0);
     for _ in 0..65_535 {
-        must(&mut pair, &Call::Next { session: 1 }, 0);
+        pair.must(&Call::Next { session: 1 }, 0);
     }
-    must(&mut pair, &Call::Next { session: 1 }, 14);
-    must(&mut pair, &Call::Read { session: 1, row: 0 }, 0);
+    pair.must(&Call::Next { session: 1 }, 14);
+    pair.must(&Call::Read { session: 1, row: 0 }, 0);
 }

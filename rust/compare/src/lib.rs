@@ -1,5 +1,5 @@
 //! Drivers for the tests that compare engines of the store: two on copies of one store, call by
-//! call and byte by byte ([`histories`], [`damage`]), or one against a plain table ([`replay`]).
+//! call and byte by byte ([`histories`], [`damage`], [`sizes`]), or one against a plain table ([`replay`]).
 //!
 //! An engine is whatever answers the twelve calls of document 01 ([`Engine`]). Every driver draws
 //! its choices from a seed. A failure prints it, and `CHIRIMOK_SEED` repeats that one round.
@@ -16,6 +16,7 @@ mod pair;
 mod probes;
 mod random;
 pub mod replay;
+pub mod sizes;
 mod store;
 mod tally;
 

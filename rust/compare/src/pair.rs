@@ -40,6 +40,11 @@ impl<'e> Pair<'e> {
         }
         answer
     }
+
+    /// Makes a call that both engines must answer with this number.
+    pub fn must(&mut self, call: &Call, code: u32) {
+        assert_eq!(self.must_agree(call).code, code, "{call:?}");
+    }
 }
 
 /// The numbers are those that the engine reported: an engine behind an adapter hands on what stands

@@ -1,7 +1,7 @@
 //! The drivers themselves, with the ordinary Rust version on both sides: do the rounds bring about
 //! every answer that they are meant to compare?
 
-use compare::{Engine, Plain, damage, histories};
+use compare::{Engine, Plain, damage, histories, sizes};
 
 const SAME: [&dyn Engine; 2] = [&Plain, &Plain];
 
@@ -19,4 +19,9 @@ fn damages_show_their_refusals() {
     damage::agree(SAME, &damage::wrong_headers(), damage::sealed_store, 60);
     damage::agree(SAME, &damage::desks(), damage::working_store, 60);
     damage::agree(SAME, &damage::lengths(), damage::working_store, 10);
+}
+
+#[test]
+fn sizes_open_and_refuse() {
+    sizes::agree(SAME);
 }
