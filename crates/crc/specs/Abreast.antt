@@ -1,4 +1,4 @@
--- Four runs of bytes, worked abreast: of each, what is said of it alone. Assumes nothing.
+-- Four runs of bytes, worked abreast (02, T-02: "Every value stays the same"): of each, what is said of it alone. Assumes nothing.
 use mathlib.Core.Path.{_≡_}
 use mathlib.Core.List.{List}
 use Prim.Native.Nat.{ℕ}

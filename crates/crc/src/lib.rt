@@ -20,6 +20,7 @@ pub struct Four {
     pub fourth: u32,
 }
 
+// The same number, in 64 bits.
 fn wide(x: u32) -> u64
     ensures { λ r. ⌜ r ≡ x ⌝ }
 {

@@ -150,6 +150,16 @@ module _ (f : ℕ → Bool) where
   unfolding allBelow
   all-more k a e = rw (add-one, a, e)
 
+  -- a test more, and four of them behind those that hold
+  all-next : (i n : ℕ) → n ≡ i + 1 → allBelow f n ≡ (allBelow f i && f i)
+  unfolding allBelow
+  all-next i n h = ap (allBelow f) (h ∙ add-one i)
+
+  pub all-four : (i : ℕ) → allBelow f i ≡ true → allBelow f (i + 4) ≡ (f i && f (i + 1) && f (i + 2) && f (i + 3))
+  all-four i e =
+      rw (all-next (i + 3) (i + 4) (omega arith), all-next (i + 2) (i + 3) (omega arith), all-next (i + 1) (i + 2) (omega arith), all-next i (i + 1) refl, e)
+      (refl)
+
   pub all-at : (n : ℕ) → allBelow f n ≡ true → (i : ℕ) → i < n → f i ≡ true
   unfolding allBelow
   all-at zero a i h = absurd (not-suc-le-zero h)

@@ -9,7 +9,6 @@ use lib.ListN.{length, take, drop, length-append}
 use lib.Seq.{sets, sets-eq, length-take-le, take-at}
 use lib.Dec.{leb}
 use borrow.Author.Tests.{leb-true, le-leb, lt-leb}
-use Rattle.ground.specs.Range.{allBelow}
 use Rattle.ground.proofs.Ranges.{and-true-left, and-true-right}
 use Rattle.kind.specs.declared.Kind.{Kind}
 use Rattle.kind.specs.Kind.{dataKind, undoKind, statusKind}
@@ -62,16 +61,6 @@ sealedArea-four p s₀ s e w =
     third = sealedArea-more (p + 2) (p + 3) s₀ (sealedPage (p + 1) (sealedPage p s)) (omega arith) second refl
 
 -- ---- right
-
--- a test more, and four of them behind those that hold
-all-next : (f : ℕ → Bool) (i n : ℕ) → n ≡ i + 1 → allBelow f n ≡ (allBelow f i && f i)
-unfolding allBelow
-all-next f i n h = ap (allBelow f) (h ∙ add-one i)
-
-pub all-four : (f : ℕ → Bool) (p : ℕ) → allBelow f p ≡ true → allBelow f (p + 4) ≡ (f p && f (p + 1) && f (p + 2) && f (p + 3))
-all-four f p e =
-    rw (all-next f (p + 3) (p + 4) (omega arith), all-next f (p + 2) (p + 3) (omega arith), all-next f (p + 1) (p + 2) (omega arith), all-next f p (p + 1) refl, e)
-    (refl)
 
 -- number i + 1 has ended
 abbrev pub endedAt : List ℕ → ℕ → Bool

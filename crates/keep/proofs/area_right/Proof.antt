@@ -7,10 +7,10 @@ use lib.ListN.{length}
 use borrow.Author.Needs.{needs}
 use borrow.Author.Tests.{not-true, not-false}
 use Rattle.ground.specs.Range.{allBelow}
-use Rattle.ground.proofs.Ranges.{all-more, all-short, all-fails}
+use Rattle.ground.proofs.Ranges.{all-more, all-four, all-short, all-fails}
 use Rattle.whole.specs.Abreast.{rightAt}
 use Rattle.keep.specs.Whole.{areaRight}
-use Rattle.keep.proofs.Pages.{all-four, rightAt-lent}
+use Rattle.keep.proofs.Pages.{rightAt-lent}
 use Rattle.keep.proofs.area_right.Statement.{statement}
 use Rattle.keep.proofs.area_right.Tie as tie
 
