@@ -43,9 +43,9 @@
  *    2  The desk is unsound: it was never filled in, or was written over. Lend the one that the
  *       last accepted call left, and no copy from before; where it is lost, open the areas as they
  *       were sealed last.
- *    3  A header field is wrong, or a number isn't closed: the areas hold no store, are damaged, or
- *       were not sealed after the last write. Open another copy that was sealed; format begins an
- *       empty store.
+ *    3  A header field is wrong, or a number isn't closed: the areas hold no store, are damaged,
+ *       were not sealed after the last write, or were sealed by version 1.0 (CHIRIMOK_VERSION says
+ *       what to do then). Open another copy that was sealed; format begins an empty store.
  *    4  The session is not open: it is closed, or was never begun here. Begin one.
  *    5  No such row, or the body isn't CHIRIMOK_BODY bytes long. Mend the argument: a store has
  *       CHIRIMOK_ROWS_PER_PAGE rows for each page of data.
@@ -85,10 +85,16 @@ extern "C" {
 /*
  * The version of this interface. The major number grows where a program has to be changed or
  * compiled anew: a name, a parameter, a layout or the meaning of an answer is another. The minor
- * number grows where something is added. (The format_version in each page is another count.)
+ * number grows where something is added, or where areas have to be sealed anew. (The format_version
+ * in each page is another count.)
+ *
+ *   1.1  A page's checksum runs over all its bytes, with its own four taken as zero, as the vendor's
+ *        tool does. Areas sealed by 1.0 are answered 3 by chirimok_open, and never taken up by
+ *        mistake. Open them with 1.0, and lend areas and desk to chirimok_seal of 1.1: then
+ *        chirimok_open accepts them.
  */
 #define CHIRIMOK_VERSION_MAJOR 1
-#define CHIRIMOK_VERSION_MINOR 0
+#define CHIRIMOK_VERSION_MINOR 1
 #define CHIRIMOK_VERSION (CHIRIMOK_VERSION_MAJOR * 1000 + CHIRIMOK_VERSION_MINOR)
 
 /* Sizes and limits. */
@@ -202,8 +208,8 @@ uint32_t chirimok_open(const uint8_t *data, size_t data_length,
                        struct chirimok_desk *desk);
 
 /*
- * Writes the checksum into every page, so that chirimok_open accepts the areas. No session may be
- * open. Refusals: 1, 2, 15.
+ * Writes the checksum into every page, so that chirimok_open accepts the areas: CRC32C over all its
+ * bytes, the checksum's own four taken as zero. No session may be open. Refusals: 1, 2, 15.
  */
 uint32_t chirimok_seal(uint8_t *data, size_t data_length,
                        uint8_t *undo, size_t undo_length,

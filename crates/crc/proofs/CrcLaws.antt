@@ -1,18 +1,18 @@
 -- Laws of CRC32C: a checksum of two parts is that of the first carried on over the second; it fits 32 bits; eight steps are one
 -- look at the table; and what a loop over bytes computes. Assumes nothing.
-use mathlib.Core.Path.{_≡_, refl, sym, ap, _∙_}
+use mathlib.Core.Path.{_≡_, refl, sym, ap, ap₂, _∙_}
 use mathlib.Core.List.{List, [], _∷_, _++_}
 use Prim.Native.Nat.{ℕ, zero, suc, _+_, _*_, _/_, _%_, _^_, _<_, _≤_}
 use native.Mathlib.Nat.{pow-suc, mul-assoc, mul-one, add-zero, zero-add, add-suc, suc-add, le-of-suc-le-suc, not-suc-le-zero}
 use native.Mathlib.Numerals.{add-one}
 use native.Mathlib.Omega.{arith}
-use lib.Bits.{bitXor, xor-lt}
+use lib.Bits.{bitXor, xor-lt, xor-self, xor-zero-r}
 use lib.ListN.{length, getD, drop, drop-of-length-le}
 use lib.Seq.{drop-cons}
 use Rattle.crc.specs.Crc.{poly, filled, stepBy, step, steps, byteStep, run, crcMore, crcOf}
 use Rattle.crc.specs.Table.{tabFrom, stepTable}
 use Rattle.crc.specs.declared.Four.{Four}
-use Rattle.crc.proofs.XorLaws.{xor-half, xor-odd, xor-swap, xor-twice, xor-parts}
+use Rattle.crc.proofs.XorLaws.{xor-half, xor-odd, xor-assoc, xor-swap, xor-twice, xor-pairs, xor-parts}
 
 -- ---- a list in two parts
 
@@ -68,25 +68,46 @@ crc-below l bytes = crcMore-below 0 l (omega arith) bytes
 
 -- ---- a byte at a time
 
-stepBy-xor : (n h t : ℕ) → stepBy n (bitXor h t) ≡ bitXor (stepBy n h) t
+-- a step keeps `^`
+stepBy-both : (i j x y : ℕ) → i < 2 → j < 2 → stepBy ((i + j) % 2) (bitXor x y) ≡ bitXor (stepBy i x) (stepBy j y)
 unfolding stepBy
-stepBy-xor zero h t = refl
-stepBy-xor (suc n) h t = xor-swap h t poly
+stepBy-both zero zero x y h k = refl
+stepBy-both zero (suc zero) x y h k = xor-assoc x y poly
+stepBy-both zero (suc (suc j)) x y h k = absurd (omega arith)
+stepBy-both (suc zero) zero x y h k = xor-swap x y poly
+stepBy-both (suc zero) (suc zero) x y h k =
+    sym (xor-pairs x poly y poly ∙ ap (bitXor (bitXor x y)) (xor-self poly) ∙ xor-zero-r (bitXor x y))
+stepBy-both (suc zero) (suc (suc j)) x y h k = absurd (omega arith)
+stepBy-both (suc (suc i)) j x y h k = absurd (omega arith)
 
-step-xor : (s t : ℕ) → step (bitXor s (t * 2)) ≡ bitXor (step s) t
+pub step-both : (a b : ℕ) → step (bitXor a b) ≡ bitXor (step a) (step b)
 unfolding step
-step-xor s t =
-    let odd : bitXor s (t * 2) % 2 ≡ s % 2 = xor-odd s (t * 2) ∙ omega arith in
-    let half : bitXor s (t * 2) / 2 ≡ bitXor (s / 2) t = xor-half s (t * 2) ∙ ap (bitXor (s / 2)) (omega arith) in
-    ap (λ (n : ℕ). stepBy n (bitXor s (t * 2) / 2)) odd ∙ ap (stepBy (s % 2)) half ∙ stepBy-xor (s % 2) (s / 2) t
+step-both a b =
+    let odd : bitXor a b % 2 ≡ (a % 2 + b % 2) % 2 = xor-odd a b ∙ omega arith in
+    ap₂ stepBy odd (xor-half a b) ∙ stepBy-both (a % 2) (b % 2) (a / 2) (b / 2) (omega arith) (omega arith)
+
+pub steps-both : (n a b : ℕ) → steps n (bitXor a b) ≡ bitXor (steps n a) (steps n b)
+unfolding steps
+steps-both zero a b = refl
+steps-both (suc n) a b = ap (steps n) (step-both a b) ∙ steps-both n (step a) (step b)
 
 -- what lies above the n low digits is only shifted
-steps-xor : (n s y : ℕ) → steps n (bitXor s (y * 2 ^ n)) ≡ bitXor (steps n s) y
+step-even : (y : ℕ) → step (y * 2) ≡ y
+unfolding step stepBy
+step-even y =
+    let even : y * 2 % 2 ≡ 0 = omega arith in
+    let half : y * 2 / 2 ≡ y = omega arith in
+    ap₂ stepBy even half
+
+steps-shifted : (n y : ℕ) → steps n (y * 2 ^ n) ≡ y
 unfolding steps
-steps-xor zero s y = ap (bitXor s) (mul-one y)
-steps-xor (suc n) s y =
+steps-shifted zero y = mul-one y
+steps-shifted (suc n) y =
     let e : y * 2 ^ suc n ≡ y * 2 ^ n * 2 = ap (λ (x : ℕ). y * x) (pow-suc 2 n) ∙ sym (mul-assoc y (2 ^ n) 2) in
-    ap (λ (x : ℕ). steps n (step (bitXor s x))) e ∙ ap (steps n) (step-xor s (y * 2 ^ n)) ∙ steps-xor n (step s) y
+    ap (λ (x : ℕ). steps n (step x)) e ∙ ap (steps n) (step-even (y * 2 ^ n)) ∙ steps-shifted n y
+
+pub steps-xor : (n s y : ℕ) → steps n (bitXor s (y * 2 ^ n)) ≡ bitXor (steps n s) y
+steps-xor n s y = steps-both n s (y * 2 ^ n) ∙ ap (bitXor (steps n s)) (steps-shifted n y)
 
 steps-byte : (x : ℕ) → steps 8 x ≡ bitXor (steps 8 (x % 256)) (x / 256)
 steps-byte x = ap (steps 8) (xor-parts x 8) ∙ steps-xor 8 (x % 256) (x / 256)

@@ -1,3 +1,4 @@
 pub mod XorLaws
 pub mod CrcLaws
+pub mod Registers
 pub mod Vectors

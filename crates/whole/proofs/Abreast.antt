@@ -4,7 +4,7 @@ use mathlib.Core.List.{List}
 use Prim.Native.Nat.{ℕ, _+_, _*_, _-_, _≤_}
 use native.Mathlib.Omega.{arith}
 use lib.ListN.{length, take, drop}
-use Rattle.little.specs.Little.{part}
+use Rattle.little.specs.Little.{digits, part}
 use Rattle.little.proofs.Parts.{length-part, part-part, part-all}
 use Rattle.crc.specs.declared.Four.{Four}
 use Rattle.crc.specs.Abreast.{crcFourMore, crcFour}
@@ -12,8 +12,8 @@ use Rattle.crc.proofs.CrcLaws.{four-eq}
 use Rattle.page.specs.Header.{pageAt, checksum, putField}
 use Rattle.page.proofs.Headers.{length-pageAt}
 use Rattle.whole.specs.Whole.{sealedPage}
-use Rattle.whole.specs.Abreast.{checksumsFrom, sealedFour}
-use Rattle.whole.proofs.Wholes.{sealedPage-put, checksumOf-more}
+use Rattle.whole.specs.Abreast.{startsFrom, checksumsFrom, sealedFour}
+use Rattle.whole.proofs.Wholes.{sealedPage-put, start-more, checksumOf-more}
 use Rattle.whole.proofs.Rights.{pageAt-sealedPage-other}
 
 -- ---- the parts of a page
@@ -35,27 +35,42 @@ pageAt-whole page e = part-all 8192 page (omega arith)
 
 -- ---- the checksums of pages p to p + 3
 
--- of their fronts, carried on over their rests
-pub checksums-more : {x₁ x₂ x₃ x₄ y₁ y₂ y₃ y₄ : List ℕ} {f r : Four} (p : ℕ) (s : List ℕ)
+-- of what they begin with
+pub starts-more : {x₁ x₂ x₃ x₄ z : List ℕ} {f r : Four} (p : ℕ) (s : List ℕ)
     → x₁ ≡ part 0 20 (pageAt p s)
     → x₂ ≡ part 0 20 (pageAt (p + 1) s)
     → x₃ ≡ part 0 20 (pageAt (p + 2) s)
     → x₄ ≡ part 0 20 (pageAt (p + 3) s)
+    → z ≡ digits 4 0
+    → f ≡ crcFour x₁ x₂ x₃ x₄
+    → r ≡ crcFourMore f z z z z
+    → r ≡ startsFrom p s
+starts-more {z = z} p s a₁ a₂ a₃ a₄ ez ef er =
+    er
+    ∙ ap (λ (g : Four). crcFourMore g z z z z) ef
+    ∙ four-eq
+    (start-more (pageAt p s) a₁ ez refl refl)
+    (start-more (pageAt (p + 1) s) a₂ ez refl refl)
+    (start-more (pageAt (p + 2) s) a₃ ez refl refl)
+    (start-more (pageAt (p + 3) s) a₄ ez refl refl)
+
+-- carried on over their rests
+pub checksums-more : {y₁ y₂ y₃ y₄ : List ℕ} {f r : Four} (p : ℕ) (s : List ℕ) → p * 8192 + 4 * 8192 ≤ length s
+    → f ≡ startsFrom p s
     → y₁ ≡ part 24 8168 (pageAt p s)
     → y₂ ≡ part 24 8168 (pageAt (p + 1) s)
     → y₃ ≡ part 24 8168 (pageAt (p + 2) s)
     → y₄ ≡ part 24 8168 (pageAt (p + 3) s)
-    → f ≡ crcFour x₁ x₂ x₃ x₄
     → r ≡ crcFourMore f y₁ y₂ y₃ y₄
     → r ≡ checksumsFrom p s
-checksums-more {y₁ = y₁} {y₂} {y₃} {y₄} p s a₁ a₂ a₃ a₄ b₁ b₂ b₃ b₄ ef er =
+checksums-more {y₁ = y₁} {y₂} {y₃} {y₄} p s l ef b₁ b₂ b₃ b₄ er =
     er
     ∙ ap (λ (g : Four). crcFourMore g y₁ y₂ y₃ y₄) ef
     ∙ four-eq
-    (checksumOf-more (pageAt p s) a₁ b₁ refl refl)
-    (checksumOf-more (pageAt (p + 1) s) a₂ b₂ refl refl)
-    (checksumOf-more (pageAt (p + 2) s) a₃ b₃ refl refl)
-    (checksumOf-more (pageAt (p + 3) s) a₄ b₄ refl refl)
+    (checksumOf-more (pageAt p s) (length-pageAt p s (omega arith)) refl b₁ refl)
+    (checksumOf-more (pageAt (p + 1) s) (length-pageAt (p + 1) s (omega arith)) refl b₂ refl)
+    (checksumOf-more (pageAt (p + 2) s) (length-pageAt (p + 2) s (omega arith)) refl b₃ refl)
+    (checksumOf-more (pageAt (p + 3) s) (length-pageAt (p + 3) s (omega arith)) refl b₄ refl)
 
 -- written one after the other: page q is the same once another is sealed
 beside : {y : List ℕ} (p q : ℕ) (s₀ s : List ℕ) → (q ≡ p → ⊥) → y ≡ sealedPage p s → pageAt q s ≡ pageAt q s₀ → pageAt q y ≡ pageAt q s₀

@@ -41,7 +41,7 @@ holds-front n s at (f ∷ fs) h =
     (holds-front n s (at + f .0) fs (omega arith))
 
 -- a field that is held says its value
-holds-said : (s : List ℕ) (at : ℕ) (before : List (ℕ × ℕ)) (w v : ℕ) (after : List (ℕ × ℕ)) → holds s at (before ++ (w, v) ∷ after) ≡ true
+pub holds-said : (s : List ℕ) (at : ℕ) (before : List (ℕ × ℕ)) (w v : ℕ) (after : List (ℕ × ℕ)) → holds s at (before ++ (w, v) ∷ after) ≡ true
     → little (part (at + widths before) w s) ≡ v
 unfolding holds
 holds-said s at [] w v after h =

@@ -1,6 +1,6 @@
 -- Laws of right pages: a page is right once it is sealed where its header was right but for the checksum, and a fresh page is
 -- right, with nothing in it; sealing leaves every record and status as it was. Assumes nothing.
-use mathlib.Core.Path.{_≡_, refl, sym, ap, ap₂, _∙_}
+use mathlib.Core.Path.{_≡_, refl, sym, ap, _∙_}
 use mathlib.Core.Bool.{Bool, true, false, not}
 use mathlib.Core.List.{List, _++_}
 use Prim.Native.Nat.{ℕ, _+_, _*_, _/_, _%_, _^_, _<_}
@@ -13,9 +13,9 @@ use borrow.Author.Tests.{eqb-true, eqb-false}
 use Rattle.ground.proofs.Ranges.{count-none}
 use Rattle.little.specs.Little.{little, digits, part, bytesOf, Bytes}
 use Rattle.little.proofs.Digits.{length-digits}
-use Rattle.little.proofs.Parts.{part-front, part-skip, part-sets-below, part-sets-above, little-byte, little-part-zeros}
+use Rattle.little.proofs.Parts.{part-front, part-skip, part-sets-below, part-sets-above, sets-again, little-byte, little-part-zeros}
 use Rattle.little.proofs.Fields.{Fit, length-bytesOf, little-field, holds-bytesOf, holds-sets}
-use Rattle.little.proofs.AllBytes.{bytes-part, bytes-sets, bytes-append, bytes-digits, bytes-zeros, bytes-bytesOf, bytes-at}
+use Rattle.little.proofs.AllBytes.{bytes-sets, bytes-append, bytes-digits, bytes-zeros, bytes-bytesOf, bytes-at}
 use Rattle.crc.specs.Crc.{crcOf}
 use Rattle.crc.proofs.CrcLaws.{crc-below}
 use Rattle.kind.specs.declared.Kind.{Kind}
@@ -42,16 +42,11 @@ use Rattle.whole.proofs.Headers.{headerRight-checksum}
 pub checksumOf-fits : (page : List ℕ) → Bytes page → checksumOf page < 256 ^ 4
 unfolding checksumOf
 checksumOf-fits page h =
-    crc-below (part 0 20 page ++ part 24 8168 page)
-    (bytes-at (part 0 20 page ++ part 24 8168 page)
-    (bytes-append (part 0 20 page) (part 24 8168 page) (bytes-part 0 20 page h) (bytes-part 24 8168 page h)))
+    crc-below (sets page 20 (digits 4 0)) (bytes-at (sets page 20 (digits 4 0)) (bytes-sets (digits 4 0) page 20 (bytes-digits 4 0) h))
 
 pub checksumOf-store : (page : List ℕ) (v : ℕ) → checksumOf (sets page 20 (digits 4 v)) ≡ checksumOf page
 unfolding checksumOf
-checksumOf-store page v =
-    ap₂ (λ (x y : List ℕ). crcOf (x ++ y))
-    (part-sets-below 0 20 page 20 (digits 4 v) (omega arith))
-    (part-sets-above 24 8168 page 20 (digits 4 v) (omega (arith, length-digits 4 v)))
+checksumOf-store page v = ap crcOf (sets-again page 20 (digits 4 v) (digits 4 0) (length-digits 4 v ∙ sym (length-digits 4 0)))
 
 -- ---- sealing page p of an area
 

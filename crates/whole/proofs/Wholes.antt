@@ -1,22 +1,22 @@
 -- Laws of whole pages: what the stores of format and seal make of an area. Assumes nothing.
 use mathlib.Core.Path.{_≡_, refl, sym, ap, ap₂, _∙_}
-use mathlib.Core.List.{List}
+use mathlib.Core.List.{List, _++_}
 use mathlib.Core.Bool.{_&&_, and-assoc, and-true}
 use Prim.Native.Nat.{ℕ, _+_, _*_, _-_, _≤_, _<_}
 use native.Mathlib.Omega.{arith}
-use lib.ListN.{length, replicate, length-append, length-replicate}
-use lib.Seq.{sets, length-sets}
+use lib.ListN.{length, drop, replicate, length-append, length-replicate, length-drop}
+use lib.Seq.{sets, length-sets, sets-eq}
 use lib.Dec.{eqb}
 use borrow.Author.Tests.{eq-eqb}
 use Rattle.little.specs.Little.{little, digits, part, bytesOf, holds}
 use Rattle.little.proofs.Digits.{length-digits}
-use Rattle.little.proofs.Parts.{part-sets, part-sets-below, sets-sets-inside, sets-part}
+use Rattle.little.proofs.Parts.{part-sets, part-sets-below, part-all, sets-sets-inside, sets-part}
 use Rattle.little.proofs.Fields.{length-bytesOf}
 use Rattle.crc.specs.Crc.{crcOf, crcMore}
 use Rattle.crc.proofs.CrcLaws.{crc-append}
 use Rattle.kind.specs.declared.Kind.{Kind}
 use Rattle.page.specs.Header.{header, pageAt, checksum, putField}
-use Rattle.whole.specs.Whole.{checksumOf, pageRight, sealedPage, blankPage, freshPage}
+use Rattle.whole.specs.Whole.{checksumOf, startOf, pageRight, sealedPage, blankPage, freshPage}
 use Rattle.page.specs.Count.{itemsIn}
 
 pub length-blankPage : (k : Kind) (id : ℕ) → length (blankPage k id) ≡ 8192
@@ -117,16 +117,31 @@ sealedPage-blank p s k id h e =
 
 -- ---- the checksum
 
--- of the front, carried on over the rest
-pub checksumOf-more : {c r : ℕ} {x y : List ℕ} (page : List ℕ)
+-- of what the page begins with
+pub start-more : {c r : ℕ} {x z : List ℕ} (page : List ℕ)
     → x ≡ part 0 20 page
-    → y ≡ part 24 8168 page
+    → z ≡ digits 4 0
     → c ≡ crcOf x
+    → r ≡ crcMore c z
+    → r ≡ crcOf (startOf page)
+start-more page ex ez ec er = er ∙ ap₂ crcMore (ec ∙ ap crcOf ex) ez ∙ sym (crc-append (part 0 20 page) (digits 4 0))
+
+-- a page whose four checksum bytes are zero, in its parts
+pub zeroed : (page : List ℕ) → length page ≡ 8192 → sets page 20 (digits 4 0) ≡ startOf page ++ part 24 8168 page
+unfolding part digits
+zeroed page long =
+    sets-eq (digits 4 0) page 20 (omega arith)
+    ∙ ap (λ (l : List ℕ). startOf page ++ l) (sym (part-all 8168 (drop 24 page) (omega (arith, length-drop 24 page))))
+
+-- carried on over the rest
+pub checksumOf-more : {c r : ℕ} {y : List ℕ} (page : List ℕ) → length page ≡ 8192
+    → c ≡ crcOf (startOf page)
+    → y ≡ part 24 8168 page
     → r ≡ crcMore c y
     → r ≡ checksumOf page
 unfolding checksumOf
-checksumOf-more {c} {r} {x} {y} page ex ey ec er =
-    er ∙ ap₂ crcMore (ec ∙ ap crcOf ex) ey ∙ sym (crc-append (part 0 20 page) (part 24 8168 page))
+checksumOf-more page long ec ey er =
+    er ∙ ap₂ crcMore ec ey ∙ sym (crc-append (startOf page) (part 24 8168 page)) ∙ sym (ap crcOf (zeroed page long))
 
 -- ---- a right page
 

@@ -3,9 +3,14 @@ use Prim.Native.Nat.{ℕ, _+_}
 use mathlib.Core.Bool.{Bool, _&&_}
 use mathlib.Core.List.{List}
 use Rattle.crc.specs.declared.Four.{Four}
+use Rattle.crc.specs.Abreast.{crcFour}
 use Rattle.kind.specs.declared.Kind.{Kind}
 use Rattle.page.specs.Header.{pageAt}
-use Rattle.whole.specs.Whole.{checksumOf, pageRight, sealedPage}
+use Rattle.whole.specs.Whole.{checksumOf, startOf, pageRight, sealedPage}
+
+-- the checksums of what they begin with
+abbrev pub startsFrom : ℕ → List ℕ → Four
+startsFrom p s = crcFour (startOf (pageAt p s)) (startOf (pageAt (p + 1) s)) (startOf (pageAt (p + 2) s)) (startOf (pageAt (p + 3) s))
 
 -- their checksums
 abbrev pub checksumsFrom : ℕ → List ℕ → Four

@@ -12,9 +12,14 @@ use Rattle.page.specs.Header.{header, pageAt, txnId, checksum, fieldIn, putFiel
 use Rattle.page.specs.Count.{itemsIn}
 use Rattle.kind.specs.declared.Kind.{Kind}
 
--- "CRC32C over the page without the four checksum bytes, so over 8,188 bytes"
+-- "CRC32C over the page without the four checksum bytes, so over 8,188 bytes", mended by 02, T-03: "sets the four bytes to zero and runs over all
+-- 8,192 bytes" (source document 001, "Checksum Calculation")
 unfoldable pub checksumOf : List ℕ → ℕ
-checksumOf page = crcOf (part 0 20 page ++ part 24 8168 page)
+checksumOf page = crcOf (sets page (checksum .0) (digits (checksum .1) 0))
+
+-- the bytes before the four, and the four: what such a page begins with
+abbrev pub startOf : List ℕ → List ℕ
+startOf page = part 0 20 page ++ digits 4 0
 
 -- no "header field other than txn_id (checksum and item_count included) is wrong": the header is the one that page number `id`
 -- of kind k should have with the txn_id that it has

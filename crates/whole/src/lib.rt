@@ -8,10 +8,11 @@ ghost use lib.ListN.{length};
 ghost use lib.Seq.{sets};
 ghost use Rattle.kind.specs.Kind.{pageSize};
 ghost use Rattle.little.specs.Little.{part};
+ghost use Rattle.crc.specs.Crc.{crcOf};
 ghost use Rattle.page.specs.Header.{pageAt, checksum, putField};
 ghost use Rattle.page.specs.Count.{Roomy};
-ghost use Rattle.whole.specs.Whole.{checksumOf, pageRight, sealedPage, blankPage};
-ghost use Rattle.whole.specs.Abreast.{checksumsFrom, sealedFour, rightAt, fourRight};
+ghost use Rattle.whole.specs.Whole.{checksumOf, startOf, pageRight, sealedPage, blankPage};
+ghost use Rattle.whole.specs.Abreast.{startsFrom, checksumsFrom, sealedFour, rightAt, fourRight};
 
 // What stands before the checksum of page p.
 fn front(s: &[u8], p: usize) -> &[u8]
@@ -33,19 +34,20 @@ fn rest(s: &[u8], p: usize) -> &[u8]
     &s[at..end]
 }
 
-// The checksum of a page, without its four checksum bytes.
-pub fn checksum(page: &[u8]) -> u32
-    requires { ⌜ length (now page) ≡ pageSize ⌝ }
-    ensures { λ r. ⌜ r ≡ checksumOf (now (page .entry)) ⌝ }
+// The checksum of what page p begins with: what stands before its own, and four zeros for that (02, T-03). No page is copied and no field
+// cleared for it.
+fn start(s: &[u8], p: usize) -> u32
+    requires { ⌜ p * pageSize + pageSize ≤ length (now s) ⌝ }
+    ensures { λ r. ⌜ r ≡ crcOf (startOf (pageAt p (now (s .entry)))) ⌝ }
 {
-    let c = crc::crc32c(front(page, 0));
-    crc::crc32c_more(c, rest(page, 0))
+    let c = crc::crc32c(front(s, p));
+    crc::crc32c_more(c, &[0; 4])
 }
 
-// The checksums of pages p to p + 3, worked abreast.
-fn checksums(s: &[u8], p: usize) -> Four
+// The same of pages p to p + 3, worked abreast.
+fn starts(s: &[u8], p: usize) -> Four
     requires { ⌜ p * pageSize + 4 * pageSize ≤ length (now s) ⌝ }
-    ensures { λ r. ⌜ r ≡ checksumsFrom p (now (s .entry)) ⌝ }
+    ensures { λ r. ⌜ r ≡ startsFrom p (now (s .entry)) ⌝ }
 {
     let c = crc::crc32c_four(
         front(s, p),
@@ -53,8 +55,25 @@ fn checksums(s: &[u8], p: usize) -> Four
         front(s, p + 2),
         front(s, p + 3),
     );
+    let field = [0; 4];
+    crc::crc32c_four_more(c, &field, &field, &field, &field)
+}
+
+// The checksum of a page.
+pub fn checksum(page: &[u8]) -> u32
+    requires { ⌜ length (now page) ≡ pageSize ⌝ }
+    ensures { λ r. ⌜ r ≡ checksumOf (now (page .entry)) ⌝ }
+{
+    crc::crc32c_more(start(page, 0), rest(page, 0))
+}
+
+// The checksums of pages p to p + 3, worked abreast.
+fn checksums(s: &[u8], p: usize) -> Four
+    requires { ⌜ p * pageSize + 4 * pageSize ≤ length (now s) ⌝ }
+    ensures { λ r. ⌜ r ≡ checksumsFrom p (now (s .entry)) ⌝ }
+{
     crc::crc32c_four_more(
-        c,
+        starts(s, p),
         rest(s, p),
         rest(s, p + 1),
         rest(s, p + 2),

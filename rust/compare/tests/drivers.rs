@@ -1,7 +1,7 @@
 //! The drivers themselves, with the ordinary Rust version on both sides: do the rounds bring about
 //! every answer that they are meant to compare?
 
-use compare::{Engine, Plain, damage, histories, sizes};
+use compare::{Engine, Plain, damage, histories, sizes, vendor};
 
 const SAME: [&dyn Engine; 2] = [&Plain, &Plain];
 
@@ -24,4 +24,10 @@ fn damages_show_their_refusals() {
 #[test]
 fn sizes_open_and_refuse() {
     sizes::agree(SAME);
+}
+
+#[test]
+fn pages_carry_the_vendors_checksum() {
+    vendor::agree(&Plain, 100);
+    vendor::agree_where_the_rules_do(&Plain);
 }

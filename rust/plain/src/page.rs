@@ -162,9 +162,9 @@ pub fn in_use(bytes: &[u8], record: usize) -> bool {
     u64_at(bytes, record) != 0
 }
 
-/// CRC32C over the page without the four checksum bytes.
+/// CRC32C over all of the page, with zeros for the four checksum bytes (02, T-03).
 fn checksum(page: &Page) -> u32 {
-    Crc32c::new().over(&page[..CHECKSUM]).over(&page[CHECKSUM + 4..]).sum()
+    Crc32c::new().over(&page[..CHECKSUM]).over(&[0; 4]).over(&page[CHECKSUM + 4..]).sum()
 }
 
 fn seal_page(page: &mut Page) {
