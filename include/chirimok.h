@@ -44,8 +44,8 @@
  *       last accepted call left, and no copy from before; where it is lost, open the areas as they
  *       were sealed last.
  *    3  A header field is wrong, or a number isn't closed: the areas hold no store, are damaged,
- *       were not sealed after the last write, or were sealed by version 1.0 (CHIRIMOK_VERSION says
- *       what to do then). Open another copy that was sealed; format begins an empty store.
+ *       were not sealed after the last write, or were sealed before version 1.1 (CHIRIMOK_VERSION
+ *       says what to do then). Open another copy that was sealed; format begins an empty store.
  *    4  The session is not open: it is closed, or was never begun here. Begin one.
  *    5  No such row, or the body isn't CHIRIMOK_BODY bytes long. Mend the argument: a store has
  *       CHIRIMOK_ROWS_PER_PAGE rows for each page of data.
@@ -89,9 +89,9 @@ extern "C" {
  * in each page is another count.)
  *
  *   1.1  A page's checksum runs over all its bytes, with its own four taken as zero, as the vendor's
- *        tool does. Areas sealed by 1.0 are answered 3 by chirimok_open, and never taken up by
- *        mistake. Open them with 1.0, and lend areas and desk to chirimok_seal of 1.1: then
- *        chirimok_open accepts them.
+ *        tool has it. Areas sealed before are answered 3 by chirimok_open, and are never taken up
+ *        by mistake. Open them with the release that sealed them, and lend areas and desk to
+ *        chirimok_seal of this one: then chirimok_open accepts them.
  */
 #define CHIRIMOK_VERSION_MAJOR 1
 #define CHIRIMOK_VERSION_MINOR 1

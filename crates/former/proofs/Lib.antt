@@ -1,3 +1,4 @@
 pub mod Numbers
 pub mod Stores
+pub mod Sealed
 pub mod Former

@@ -9,11 +9,12 @@ use native.Mathlib.Omega.{arith}
 use lib.Bits.{bitXor, xor-comm, xor-zero-r, xor-lt}
 use lib.Dec.{eqb}
 use lib.ListN.{length}
+use lib.Seq.{sets}
 use borrow.Author.Tests.{eqb-true, eq-eqb, ne-eqb}
 use Rattle.ground.proofs.Ranges.{same-truth, or-true-right}
 use Rattle.little.specs.Little.{little, digits, part, Bytes}
-use Rattle.little.proofs.Digits.{digits-little}
-use Rattle.little.proofs.Parts.{length-part, part-add}
+use Rattle.little.proofs.Digits.{length-digits, digits-little}
+use Rattle.little.proofs.Parts.{length-part, part-add, part-sets-below, part-sets-above}
 use Rattle.little.proofs.AllBytes.{bytes-part, bytes-digits, bytes-at}
 use Rattle.crc.specs.Crc.{filled, stepBy, step, steps, byteStep, run, crcMore, crcOf}
 use Rattle.crc.proofs.XorLaws.{xor-assoc, xor-cancel, xor-parts}
@@ -45,6 +46,14 @@ run-zeros c = run-digits 4 c 0 (omega arith) ∙ ap (steps 32) (xor-zero-r c)
 
 -- ---- the two numbers of a page
 
+-- the field does not count for the old rule either
+pub former-store : (page : List ℕ) (v : ℕ) → formerChecksum (sets page 20 (digits 4 v)) ≡ formerChecksum page
+unfolding formerChecksum
+former-store page v =
+    ap₂ (λ (x y : List ℕ). crcOf (x ++ y))
+    (part-sets-below 0 20 page 20 (digits 4 v) (omega arith))
+    (part-sets-above 24 8168 page 20 (digits 4 v) (omega (arith, length-digits 4 v)))
+
 module _ (page : List ℕ) (long : length page ≡ 8192) (bytes : Bytes page) where
   -- what stands behind the checksum
   abbrev behind : List ℕ
@@ -64,6 +73,13 @@ module _ (page : List ℕ) (long : length page ≡ 8192) (bytes : Bytes page) wh
       ap crcOf (zeroed page long)
       ∙ ap (λ (x : ℕ). bitXor x filled)
       (run-append filled (startOf page) behind ∙ ap (λ (x : ℕ). run x behind) (run-append filled (part 0 20 page) (digits 4 0)))
+
+  pub former-fits : formerChecksum page < 256 ^ 4
+  former-fits =
+      rw former-run
+      (xor-lt 32 (run (registerOf page) behind) filled
+      (run-below (registerOf page) behind register-below (bytes-at behind (bytes-part 24 8168 page bytes)))
+      (omega arith))
 
   pub agree-left : agree page ≡ eqb (run (registerOf page) (digits 4 0)) (registerOf page)
   unfolding agree

@@ -32,7 +32,7 @@ const fn tables() -> [[u32; 256]; 8] {
     tables
 }
 
-/// A sum under way, so that it can skip a part of what it runs over.
+/// A sum under way, so that what it runs over can come in parts.
 #[derive(Clone, Copy)]
 pub struct Crc32c(u32);
 
