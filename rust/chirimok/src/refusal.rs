@@ -16,10 +16,10 @@ pub enum Refusal {
     /// accepted call; where they are lost, open the areas as they were sealed last.
     UnsoundDesk = 2,
     /// Open found a wrong header field or a number that isn't closed: the areas hold no store, are
-    /// damaged, were not sealed after the last write, or were sealed before version 1.1. Those are
-    /// opened by the release that sealed them, and sealed by this one with the
-    /// [words](crate::Store::from_kept_words) of the desk that it made. Else open another copy that
-    /// was sealed; format begins an empty store.
+    /// damaged, were not sealed after the last write, or were sealed before version 1.1 of the
+    /// library (the header's `CHIRIMOK_VERSION`). Those are opened by the release that sealed them,
+    /// and sealed by this one with the [words](crate::Store::from_kept_words) of the desk that it
+    /// made. Else open another copy that was sealed; format begins an empty store.
     UnsoundStore = 3,
     /// The session is not open: it is closed, or was never begun here. Begin one.
     SessionNotOpen = 4,
