@@ -16,11 +16,12 @@ use Rattle.desk.specs.declared.Desk.{Desk}
 use Rattle.desk.specs.Desk.{freshDesk, noDesk}
 use Rattle.desk.proofs.Sounds.{fresh-sound, fresh-closed}
 use Rattle.keep.specs.Whole.{sealedArea, highest}
-use Rattle.keep.specs.Keep.{sealRefusal, sealed, sealRule, openRefusal, openRule}
+use Rattle.keep.specs.Keep.{sealed, sealRule, openRefusal, openRule}
+use Rattle.keep.proofs.Calls.{seal-0, open-0, open-3}
 use Rattle.keep.proofs.Promises.{open-seal}
 use Rattle.former.specs.Former.{formerChecksum, sealedPageBy, sealedAreaBy, sealedBy, pageRightBy, openBy, formerOpen, agree, areaAgrees, storeAgrees, Former}
 use Rattle.former.proofs.Numbers.{agree-left, agree-two}
-use Rattle.former.proofs.Stores.{one-page, status-differs, page-right, sealable, storeRight-today, Accepted, accepted, store-agrees}
+use Rattle.former.proofs.Stores.{lengths-ok, one-page, status-differs, page-right, sealable, storeRight-today, Accepted, accepted, store-agrees}
 use Rattle.former.proofs.Sealed.{sealed-before}
 
 -- ---- today's seal and open
@@ -44,12 +45,10 @@ opens a = rw (storeRight-today a) refl
 
 module _ (a : Areas) (h : Accepted a) where
   differing : storeAgrees a ≡ false → openRule a ≡ (3, noDesk)
-  unfolding openRule openRefusal
-  differing e = rw (h .lengths, store-agrees a (h .found), e) refl
+  differing e = open-3 (a .«data») (a .undo) (a .status) (lengths-ok a (h .lengths)) (store-agrees a (h .found) ∙ e)
 
   agreeing : storeAgrees a ≡ true → openRule a ≡ formerOpen a
-  unfolding openRule openRefusal
-  agreeing e = rw (h .lengths, store-agrees a (h .found), e) (sym (h .answered))
+  agreeing e = open-0 (a .«data») (a .undo) (a .status) (lengths-ok a (h .lengths)) (store-agrees a (h .found) ∙ e) ∙ sym (h .answered)
 
   its-status : Bytes (a .status) → agree (pageAt 0 (a .status)) ≡ false
   unfolding pageRightBy
@@ -72,10 +71,11 @@ module _ (a : Areas) (h : Accepted a) where
   desk = freshDesk (highest (a .status) + 1)
 
   seal-done : sealRule a desk ≡ (0, sealed a)
-  unfolding sealRule sealRefusal
   seal-done =
       let few : highest (a .status) ≤ 32575 = leb-true (highest (a .status)) 32575 (h .found .few) in
-      rw (h .lengths, fresh-sound (highest (a .status) + 1) (omega arith) (omega arith), fresh-closed (highest (a .status) + 1)) refl
+      seal-0 (a .«data») (a .undo) (a .status) (lengths-ok a (h .lengths)) desk
+      (fresh-sound (highest (a .status) + 1) (omega arith) (omega arith))
+      (fresh-closed (highest (a .status) + 1))
 
   opens-anew : Bytes (a .«data») → Bytes (a .undo) → Bytes (a .status) → openRule (sealed a) ≡ (0, desk)
   opens-anew bd bu bs =

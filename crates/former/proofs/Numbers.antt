@@ -4,7 +4,7 @@ use mathlib.Core.Path.{_≡_, refl, sym, ap, ap₂, _∙_}
 use mathlib.Core.Logic.{_⊎_, ⊎-elim}
 use mathlib.Core.Bool.{Bool, true, false, _||_}
 use mathlib.Core.List.{List, _++_}
-use Prim.Native.Nat.{ℕ, zero, suc, _+_, _*_, _/_, _%_, _^_, _≤_, _<_}
+use Prim.Native.Nat.{ℕ, _+_, _^_, _≤_, _<_}
 use native.Mathlib.Omega.{arith}
 use lib.Bits.{bitXor, xor-comm, xor-zero-r, xor-lt}
 use lib.Dec.{eqb}
@@ -16,31 +16,16 @@ use Rattle.little.specs.Little.{little, digits, part, Bytes}
 use Rattle.little.proofs.Digits.{length-digits, digits-little}
 use Rattle.little.proofs.Parts.{length-part, part-add, part-sets-below, part-sets-above}
 use Rattle.little.proofs.AllBytes.{bytes-part, bytes-digits, bytes-at}
-use Rattle.crc.specs.Crc.{filled, stepBy, step, steps, byteStep, run, crcMore, crcOf}
-use Rattle.crc.proofs.XorLaws.{xor-assoc, xor-cancel, xor-parts}
-use Rattle.crc.proofs.CrcLaws.{steps-xor, steps-below, run-append, run-below}
-use Rattle.crc.proofs.Registers.{steps-add, steps-injective, run-injective, still, steps-still}
+use Rattle.crc.specs.Crc.{filled, stepBy, step, steps, run, crcMore, crcOf}
+use Rattle.crc.proofs.XorLaws.{xor-cancel}
+use Rattle.crc.proofs.CrcLaws.{steps-below, run-append, run-below}
+use Rattle.crc.proofs.Registers.{steps-injective, run-injective, still, steps-still}
 use Rattle.whole.specs.Whole.{checksumOf, startOf}
 use Rattle.whole.proofs.Wholes.{zeroed}
+use Rattle.whole.proofs.Runs.{run-digits}
 use Rattle.former.specs.Former.{formerChecksum, agree, registerOf}
 
--- ---- the bytes of a number, run over
-
-run-digits : (w c v : ℕ) → v < 256 ^ w → run c (digits w v) ≡ steps (w * 8) (bitXor c v)
-unfolding run digits byteStep steps
-run-digits zero c v h =
-    let none : v ≡ 0 = omega arith in
-    sym (xor-zero-r c) ∙ ap (bitXor c) (sym none)
-run-digits (suc w) c v h =
-    let more : 8 + w * 8 ≡ suc w * 8 = omega arith in
-    let low : bitXor (byteStep c (v % 256)) (v / 256) ≡ steps 8 (bitXor c v) =
-    sym (steps-xor 8 (bitXor c (v % 256)) (v / 256))
-    ∙ ap (steps 8) (xor-assoc c (v % 256) (v / 256 * 256) ∙ ap (bitXor c) (sym (xor-parts v 8))) in
-    run-digits w (byteStep c (v % 256)) (v / 256) (omega arith)
-    ∙ ap (steps (w * 8)) low
-    ∙ steps-add 8 (w * 8) (bitXor c v)
-    ∙ ap (λ (n : ℕ). steps n (bitXor c v)) more
-
+-- four bytes 0 are 32 bits 0
 run-zeros : (c : ℕ) → run c (digits 4 0) ≡ steps 32 c
 run-zeros c = run-digits 4 c 0 (omega arith) ∙ ap (steps 32) (xor-zero-r c)
 

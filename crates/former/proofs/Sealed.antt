@@ -17,10 +17,11 @@ use Rattle.page.proofs.Headers.{length-pageAt, bytes-pageAt, length-putField, b
 use Rattle.whole.specs.Whole.{checksumOf, headerRight}
 use Rattle.desk.specs.Desk.{noDesk}
 use Rattle.keep.specs.Whole.{highest, storeRight}
-use Rattle.keep.specs.Keep.{openRefusal, openRule}
+use Rattle.keep.specs.Keep.{openRule}
+use Rattle.keep.proofs.Calls.{open-3}
 use Rattle.former.specs.Former.{formerChecksum, sealedPageBy, sealedAreaBy, sealedBy, pageRightBy, formerSealed, agree}
 use Rattle.former.proofs.Numbers.{former-store, former-fits}
-use Rattle.former.proofs.Stores.{header-says, page-right, one-page, status-differs, right-parts, storeRight-today}
+use Rattle.former.proofs.Stores.{header-says, page-right, lengths-ok, one-page, status-differs, right-parts, storeRight-today}
 
 length-sealedAreaBy : (sum : List ℕ → ℕ) (n : ℕ) (s : List ℕ) → length (sealedAreaBy sum n s) ≡ length s
 unfolding sealedAreaBy sealedPageBy
@@ -65,16 +66,16 @@ module _ (s : List ℕ) (long : length s ≡ 8192) (b : Bytes s) where
 -- ---- the whole store
 
 pub sealed-before : (a : Areas) → Bytes (a .status) → badLength a ≡ false → openRule (formerSealed a) ≡ (3, noDesk)
-unfolding sealedBy openRule openRefusal
+unfolding sealedBy
 sealed-before a b lengths =
-    rw (
+    open-3 (formerSealed a .«data») (formerSealed a .undo) (formerSealed a .status)
+    (rw (
       length-sealedAreaBy formerChecksum (pages (a .«data»)) (a .«data»),
       length-sealedAreaBy formerChecksum (pages (a .undo)) (a .undo),
       length-sealedAreaBy formerChecksum (pages (a .status)) (a .status),
-      lengths,
-      wrong (storeRight (formerSealed a)) refl,
     )
-    refl
+    (lengths-ok a lengths))
+    (wrong (storeRight (formerSealed a)) refl)
   where
     long : length (a .status) ≡ 8192
     long = one-page a lengths

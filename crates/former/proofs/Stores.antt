@@ -80,10 +80,11 @@ module _ (k : Kind) (s : List ℕ) (right : areaRightBy formerChecksum k s ≡ t
 
 -- ---- the status page
 
+pub lengths-ok : (a : Areas) → badLength a ≡ false → lengthsOk (length (a .«data»)) (length (a .undo)) (length (a .status)) ≡ true
+lengths-ok a h = not-false (lengthsOk (length (a .«data»)) (length (a .undo)) (length (a .status))) h
+
 pub one-page : (a : Areas) → badLength a ≡ false → length (a .status) ≡ 8192
-one-page a h =
-    status-length (length (a .«data»)) (length (a .undo)) (length (a .status))
-    (not-false (lengthsOk (length (a .«data»)) (length (a .undo)) (length (a .status))) h)
+one-page a h = status-length (length (a .«data»)) (length (a .undo)) (length (a .status)) (lengths-ok a h)
 
 -- where nothing but the checksum may be wrong, whatever checksum the header should say
 pub status-differs : (s : List ℕ) (v : ℕ) → length s ≡ 8192 → Bytes s

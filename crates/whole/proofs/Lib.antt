@@ -2,3 +2,4 @@ pub mod Wholes
 pub mod Headers
 pub mod Rights
 pub mod Abreast
+pub mod Runs
