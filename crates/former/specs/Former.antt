@@ -1,4 +1,5 @@
--- The checksum as document 01 had it before 02, T-03 mended it, the open of that time, and what becomes of a store that it accepts. Assumes nothing.
+-- The checksum as document 01 had it before 02, T-03 mended it, seal and open of that time, and what becomes of the stores that they sealed or accept.
+-- Assumes nothing.
 use Prim.Native.Nat.{ℕ, zero, suc, _+_}
 use mathlib.Core.Path.{_≡_}
 use mathlib.Core.Bool.{Bool, true, false, not, _&&_, _||_}
