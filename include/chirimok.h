@@ -34,9 +34,10 @@
  * put away unsealed is put away with its desk.
  *
  * Answers: each call answers CHIRIMOK_DONE or the number of its refusal. Where several refusals
- * apply, the lowest is given. A refused call leaves areas and desk as they were and fills its out
- * array with zeros. Every call can answer 1; every call but format and open can answer 2. The other
- * numbers are listed at each call. What each says, and what a station does about it:
+ * apply, the lowest is given, but that 17 stands between 6 and 7. A refused call leaves areas and
+ * desk as they were and fills its out array with zeros. Every call can answer 1; every call but
+ * format and open can answer 2. The other numbers are listed at each call, in their order. What
+ * each says, and what a station does about it:
  *
  *    1  An area's length isn't allowed. Lend whole pages: 1 to CHIRIMOK_PAGES of data, 1 to
  *       CHIRIMOK_PAGES of undo, exactly 1 of status.
@@ -71,6 +72,13 @@
  *   14  The session is in its last statement. It can still read, write, commit and withdraw; go on
  *       in another.
  *   15  Seal found an open session. Commit or withdraw those in desk.numbers, and seal again.
+ *   17  A version of the row that was looked at names a number, other than the session's own, whose
+ *       status is 11: reserved, and written by no call. The status page is damaged, and whether
+ *       that number was committed cannot be told. A store that the calls alone wrote since its
+ *       format, each with the last desk, never answers it. Go back to a copy that was sealed; rows
+ *       whose versions name no such number can still be read.
+ *
+ * There is no 16: it is what the script's program answers to a line that is ill formed.
  */
 #ifndef CHIRIMOK_H
 #define CHIRIMOK_H
@@ -92,9 +100,12 @@ extern "C" {
  *        tool has it. Areas sealed before are answered 3 by chirimok_open, and are never taken up
  *        by mistake. Open them with the release that sealed them, and lend areas and desk to
  *        chirimok_seal of this one: then chirimok_open accepts them.
+ *   1.2  chirimok_update, chirimok_delete and chirimok_read answer 17 where a number that they meet
+ *        has the reserved status. Before, such a number passed for one that is not committed. A
+ *        program that takes every answer but CHIRIMOK_DONE for a refusal need not be changed.
  */
 #define CHIRIMOK_VERSION_MAJOR 1
-#define CHIRIMOK_VERSION_MINOR 1
+#define CHIRIMOK_VERSION_MINOR 2
 #define CHIRIMOK_VERSION (CHIRIMOK_VERSION_MAJOR * 1000 + CHIRIMOK_VERSION_MINOR)
 
 /* Sizes and limits. */
@@ -128,7 +139,8 @@ enum {
     CHIRIMOK_SESSIONS_FULL = 12,
     CHIRIMOK_NUMBERS_USED_UP = 13,
     CHIRIMOK_STATEMENTS_USED_UP = 14,
-    CHIRIMOK_SESSION_OPEN = 15
+    CHIRIMOK_SESSION_OPEN = 15,
+    CHIRIMOK_RESERVED_STATUS = 17
 };
 
 /* What an answer says, as a text that stays. */
@@ -167,6 +179,8 @@ static inline const char *chirimok_refusal(uint32_t code)
         return "the session is in its last statement";
     case CHIRIMOK_SESSION_OPEN:
         return "a session is open";
+    case CHIRIMOK_RESERVED_STATUS:
+        return "a number that the row names has the reserved status";
     default:
         return "no answer of this store";
     }
@@ -250,7 +264,7 @@ uint32_t chirimok_insert(uint8_t *data, size_t data_length,
 
 /*
  * Replaces the body of a row; the old version moves to the undo area for those who still read it.
- * After 10 the session may go on with other rows or withdraw. Refusals: 1, 2, 4 to 11.
+ * After 10 the session may go on with other rows or withdraw. Refusals: 1, 2, 4 to 6, 17, 7 to 11.
  */
 uint32_t chirimok_update(uint8_t *data, size_t data_length,
                          uint8_t *undo, size_t undo_length,
@@ -261,7 +275,8 @@ uint32_t chirimok_update(uint8_t *data, size_t data_length,
 
 /*
  * Deletes a row for the session's later statements and, once it commits, for all who begin after.
- * The slot is empty again when a sweep has removed the version. Refusals: 1, 2, 4 to 10.
+ * The slot is empty again when a sweep has removed the version. Refusals: 1, 2, 4 to 6, 17, 7 to
+ * 10.
  */
 uint32_t chirimok_delete(uint8_t *data, size_t data_length,
                          const uint8_t *undo, size_t undo_length,
@@ -276,7 +291,7 @@ uint32_t chirimok_delete(uint8_t *data, size_t data_length,
  *   out[1]  where the body lies: CHIRIMOK_IN_DATA or CHIRIMOK_IN_UNDO (0 after a refusal)
  *   out[2]  the byte offset of its 32 bytes in that area
  *
- * The bytes stay there until the next call that writes the area. Refusals: 1, 2, 4 to 7.
+ * The bytes stay there until the next call that writes the area. Refusals: 1, 2, 4 to 6, 17, 7.
  */
 uint32_t chirimok_read(const uint8_t *data, size_t data_length,
                        const uint8_t *undo, size_t undo_length,

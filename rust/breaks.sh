@@ -1,5 +1,5 @@
 #!/bin/sh
-# Tries the thirteen breaks of BREAKS.md. Each is applied to a copy of this workspace, and the named test
+# Tries the fourteen breaks of BREAKS.md. Each is applied to a copy of this workspace, and the named test
 # must compile and then fail where the two engines differ; on the untouched copy every named test must
 # pass. Needs the archive that CHIRIMOK_STATION names, by default ../target/staticlib/libstation.a.
 set -eu
@@ -85,5 +85,7 @@ break_it 12 plain/src/page.rs '/^pub fn seal_area/,/^}/s/iter_mut()/iter_mut().t
     agree_on_sizes agree_on_sizes
 break_it 13 plain/src/page.rs '/^fn checksum/,/^}/s/\.over(&\[0; 4\])//' \
     agree_on_histories agree_on_histories
+break_it 14 plain/src/sight.rs 's/number != self.number && reserved/reserved/' \
+    agree_on_damage agree_on_reserved_numbers
 
 exit "$((unnoticed > 0))"

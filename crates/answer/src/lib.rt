@@ -1,4 +1,5 @@
-// What a call answers: a name for each number of document 01's table ("01, When the desk says no").
+// What a call answers: a name for each number of document 01's table ("01, When the desk says no") and for those
+// that document 02 adds.
 ghost use mathlib.Core.Path.{_≡_};
 ghost use Rattle.answer.specs.Code.{codeOf};
 
@@ -37,6 +38,8 @@ pub enum Answer {
     StillOpen,
     // 16: the line of a script is ill-formed
     IllFormed,
+    // 17: a version looked at names a number of status 11, told between 6 and 7
+    InDoubt,
 }
 
 // The number that the paper gives an answer.
@@ -61,5 +64,6 @@ pub fn code(a: Answer) -> u32
         Answer::StatementsUsed => 14,
         Answer::StillOpen => 15,
         Answer::IllFormed => 16,
+        Answer::InDoubt => 17,
     }
 }

@@ -1,18 +1,14 @@
-// A row's versions, from the slot along the undo pointers ("01, Sessions and sight"), and the walk that finds the one that a session
-// reads. The walk counts its steps and keeps no list of the entries passed; that this is the same is shown in proofs/.
+// A row's versions, from the slot along the undo pointers ("01, Sessions and sight"), step by step, and where a version's body lies. What the
+// walk along them finds is said in specs/; its loop is `seeking`'s.
 use pointer::Lead;
 use pointer::Pointer;
 use records::entry::Entry;
 use records::slot::Slot;
 use sight::Stamp;
 ghost use mathlib.Core.Path.{_≡_};
-ghost use Prim.Native.Nat.{_<_};
-ghost use lib.ListN.{length};
 ghost use denote.Ref.{ptr};
-ghost use Rattle.kind.specs.Kind.{pageSize, rows};
 ghost use Rattle.chain.specs.Chain.{linkOf};
-ghost use Rattle.sight.specs.Sight.{viewOf};
-ghost use Rattle.chain.specs.Walk.{stampOf, endOf, followRule, walkRule, bodyOf, bodyFrom};
+ghost use Rattle.chain.specs.Walk.{stampOf, bodyOf, bodyFrom};
 
 // Where a version lies: nowhere, in the slot of a row, or as the copy in an entry.
 pub enum Place {
@@ -56,17 +52,6 @@ pub fn follow(undo: &[u8], row: usize, ptr: u64) -> Link
     }
 }
 
-// What a walk answers where its link leads to no entry that it may still pass.
-fn ended(l: Link) -> Walk
-    ensures { λ r. ⌜ r ≡ endOf l ⌝ }
-{
-    match l {
-        Link::End => Walk::Absent,
-        Link::Break => Walk::Broken,
-        Link::To(_, _) => Walk::Broken,
-    }
-}
-
 // What sight looks at in a slot or a slot copy.
 pub fn stamp_of(m: Slot) -> Stamp
     ensures { λ r. ⌜ r ≡ stampOf m ⌝ }
@@ -77,66 +62,6 @@ pub fn stamp_of(m: Slot) -> Stamp
         cmd: m.cmd,
         expire_cmd: m.expire_cmd,
     }
-}
-
-// The walk behind the slot, which was looked at: from the pointer on, along the undo pointers, to the first copy that is there. The
-// chain is broken where it "leads to an entry already passed": then it goes round, until as many copies as there are entries were
-// looked at.
-fn search_copies<'a>(
-    undo: &'a [u8],
-    status: &'a [u8],
-    number: u64,
-    statement: u32,
-    list: &'a [u32],
-    row: usize,
-    first: u64,
-) -> Walk
-    requires { ⌜ length (now status) ≡ pageSize ⌝ }
-    ensures { λ r. ⌜ r ≡ followRule (now (undo .entry)) (now (status .entry)) (viewOf number statement (now (list .entry))) row first ⌝ }
-{
-    let most = kind::entries(undo);
-    let mut ptr = first;
-    let mut looked = 1;
-    let found = loop {
-        let l = follow(undo, row, ptr);
-        let Link::To(e, m) = l else {
-            break ended(l);
-        };
-        if looked > most {
-            break Walk::Broken;
-        }
-        let copy = m.copy;
-        if sight::is_there(number, statement, list, status, stamp_of(copy)) {
-            break Walk::Found(Place::Undo(e), looked + 1);
-        }
-        ptr = copy.undo_ptr;
-        looked += 1;
-    };
-    found
-}
-
-// "S reads the first such version, starting at the slot and following undo pointers", and how many versions were looked at, "the
-// answer included". An empty slot has no version.
-pub fn search<'a>(
-    data: &'a [u8],
-    undo: &'a [u8],
-    status: &'a [u8],
-    number: u64,
-    statement: u32,
-    list: &'a [u32],
-    row: usize,
-) -> Walk
-    requires { ⌜ (row < rows (now «data»)) × (length (now status) ≡ pageSize) ⌝ }
-    ensures { λ r. ⌜ r ≡ walkRule (now («data» .entry)) (now (undo .entry)) (now (status .entry)) (viewOf number statement (now (list .entry))) row ⌝ }
-{
-    let m = records::slot::read_slot(data, row);
-    if m.create == 0 {
-        return Walk::Absent;
-    }
-    if sight::is_there(number, statement, list, status, stamp_of(m)) {
-        return Walk::Found(Place::Data(row), 1);
-    }
-    search_copies(undo, status, number, statement, list, row, m.undo_ptr)
 }
 
 // The body of the version at a place, "handed back where it lies, in the data area or the undo area, never a copy"; the empty part of

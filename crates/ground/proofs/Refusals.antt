@@ -20,10 +20,14 @@ firstOf-more (l ∷ ls) rest k e = by (l .0) e (firstOf-more ls rest k)
     by true e next = e
     by false e next = next e
 
+-- what is not the first line's number is told behind it, and the line doesn't hold
+pub firstOf-past : (k : ℕ) (b : Bool) (n m : ℕ) → (n ≡ k → ⊥) → cond b n m ≡ k → (b ≡ false) × (m ≡ k)
+firstOf-past k true n m other e = absurd (other e)
+firstOf-past k false n m other e = (refl, e)
+
 -- where nothing is refused, the first line doesn't hold, and nothing behind it is refused
 pub firstOf-none : (b : Bool) (n m : ℕ) → (n ≡ 0 → ⊥) → cond b n m ≡ 0 → (b ≡ false) × (m ≡ 0)
-firstOf-none true n m some e = absurd (some e)
-firstOf-none false n m some e = (refl, e)
+firstOf-none = firstOf-past 0
 
 module _ {A : Type 0} (done : A) (refused : ℕ → A) where
   pub settle-refused : (n k : ℕ) → n ≡ suc k → settle n done refused ≡ refused (suc k)

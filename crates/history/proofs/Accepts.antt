@@ -21,6 +21,8 @@ use Rattle.chain.specs.Chain.{chainFrom, chainOf}
 use Rattle.chain.specs.Walk.{stampOf, walkRule}
 use Rattle.chain.proofs.Rows.{slotVersion}
 use Rattle.sight.specs.Sight.{known}
+use Rattle.doubt.specs.Doubt.{NoneReserved}
+use Rattle.doubt.proofs.Doubts.{doubts-none}
 use Rattle.seeking.specs.Seeking.{noRow, isBroken, breaks, isAbsent, misses, says}
 use Rattle.seeking.proofs.Seekings.{Writable, writing}
 use Rattle.machine.specs.Machine.{Version as Held, counts, firstThere, isSome, lookedAt, knows, writable, reads}
@@ -64,7 +66,7 @@ module _ (d u s : List ℕ) (k : Desk) (v : View) (r : ℕ) (few : length (v .li
 
 -- ---- the other way
 
-module _ (d u s : List ℕ) (k : Desk) (v : View) (r : ℕ) (few : length (v .list) ≤ 15) (whole : r < rows d → chainOf d u r .whole ≡ true)
+module _ (d u s : List ℕ) (k : Desk) (v : View) (r : ℕ) (few : length (v .list) ≤ 15) (whole : r < rows d → chainOf d u r .whole ≡ true) (stated : NoneReserved s)
     (can : writable (standings s) (some (sessionOf v)) (rowOf d u r) ≡ true) where
   abbrev p : ℕ → ℕ → Bool
   p = counts (standings s) (sessionOf v) (v .statement)
@@ -110,4 +112,4 @@ module _ (d u s : List ℕ) (k : Desk) (v : View) (r : ℕ) (few : length (v .li
   -- nothing is said against it: behind what is asked of the row, the list of refusals goes on
   pub may-pass : (rest : List (Bool × ℕ)) → firstOf (writing d u s v r rest) ≡ firstOf rest
   unfolding noRow breaks misses says
-  may-pass rest = rw (lt-leb (rows d) r may-inside, walks .0, walks .1, clear-conflict v s (stampOf (slotAt r d)) (parts .1) (parts .2))
+  may-pass rest = rw (lt-leb (rows d) r may-inside, walks .0, doubts-none d u s v r stated, walks .1, clear-conflict v s (stampOf (slotAt r d)) (parts .1) (parts .2))

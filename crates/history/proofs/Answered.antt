@@ -14,6 +14,7 @@ use Rattle.chain.specs.declared.Place.the-variants.{Nowhere}
 use Rattle.chain.specs.declared.Walk.{Walk}
 use Rattle.chain.specs.declared.Walk.the-variants.{Found, Absent, Broken}
 use Rattle.chain.specs.Walk.{walkRule, bodyOf}
+use Rattle.doubt.proofs.Doubts.{doubts-none}
 use Rattle.seeking.specs.Seeking.{noRow, isBroken, breaks, isAbsent, misses}
 use Rattle.rows.specs.Rows.{viewIn, readRefusal, readRule, seenBy}
 use Rattle.machine.specs.Table.{Body}
@@ -56,7 +57,7 @@ module _ (w : World) (g : Good w) (x r : ℕ) where
 
     asks : readRefusal (w .held) (w .desk) x r ≡ firstOf ((breaks d u s v r, 6) ∷ (misses d u s v r, 7) ∷ [])
     unfolding readRefusal noRow
-    asks = rw (g .lengths, g .sound, opened, lt-leb (rows d) r inside)
+    asks = rw (g .lengths, g .sound, opened, lt-leb (rows d) r inside, doubts-none d u s v r (g .stated))
 
     read-says : (z : Walk) → walkRule d u s v r ≡ z → says w (Read x r) ≡ said (outcome z)
     unfolding step readRule breaks misses

@@ -1,7 +1,7 @@
 -- Format, seal and open: an accepted format leaves a good world that is seen as the empty machine; seal and open keep a world good and
 -- leave what is seen of it. Assumes nothing.
 use Prim.Native.Nat.{ℕ, _+_, _-_, _≤_, _<_}
-use mathlib.Core.Path.{_≡_, refl, ap, sym, _∙_}
+use mathlib.Core.Path.{_≡_, refl, ap, sym, subst, _∙_}
 use mathlib.Core.Bool.{true, false, not, _&&_}
 use mathlib.Core.List.{List, []}
 use native.Mathlib.Omega.{arith}
@@ -21,6 +21,7 @@ use Rattle.status.specs.declared.Status.{Status}
 use Rattle.status.specs.declared.Status.the-variants.{InWork, Committed, Withdrawn, Reserved}
 use Rattle.status.specs.Status.{lastNumber, statusAt}
 use Rattle.sight.specs.Sight.{standing}
+use Rattle.doubt.specs.Doubt.{NoneReserved}
 use Rattle.keep.specs.Whole.{freshArea, areaRight, highest, ended, allEnded, storeRight}
 use Rattle.keep.specs.Keep.{formatRefusal, formatted, sealed, openRefusal}
 use Rattle.keep.proofs.Pages.{highest-storeRight}
@@ -31,7 +32,7 @@ use Rattle.machine.proofs.Follows.{machine-ext, no-work-no-session}
 use Rattle.seen.specs.Seen.{asStanding, standings}
 use Rattle.seen.proofs.Desks.{fresh-sessions, fresh-long}
 use Rattle.upheld.proofs.Kept.{sealed-rows, sealed-whole, sealed-standing, fresh-rows, fresh-whole, fresh-standing}
-use Rattle.upheld.proofs.Statuses.{sealable-sealed, sealable-fresh}
+use Rattle.upheld.proofs.Statuses.{sealable-sealed, sealable-fresh, unreserved-sealed, unreserved-fresh}
 use Rattle.history.specs.World.{World, world, response}
 use Rattle.history.proofs.Worlds.{seen, Good, Goes, stay-allowed}
 
@@ -88,6 +89,7 @@ module _ (d u s : List ℕ) (lent : badLength (areas d u s) ≡ false) where
         undo = sealable-fresh undoKind (pages u) fitting-undo (omega (arith, l .inUndo .few));
         status = sealable-fresh statusKind (pages s) fitting-status (omega (arith, l .inStatus .few));
         high = ap (λ (n : ℕ). n + 1) (highest-freshArea statusKind (pages s) (l .inStatus .some));
+        stated = subst (λ (n : ℕ). NoneReserved (freshArea statusKind n)) (sym one-page) unreserved-fresh;
       }
 
   pub formatted-seen : seen made ≡ empty
@@ -131,6 +133,7 @@ module _ (w : World) (g : Good w) where
         undo = sealable-sealed undoKind un (g .undo);
         status = sealable-sealed statusKind st (g .status);
         high = ap (λ (n : ℕ). n + 1) (highest-sealedArea (pages st) st) ∙ g .high;
+        stated = unreserved-sealed st (g .stated);
       }
 
   pub sealed-seen : seen w ≡ seen (world (sealed (w .held)) (w .desk))
@@ -160,6 +163,7 @@ module _ (w : World) (g : Good w) where
           undo = g .undo;
           status = g .status;
           high = refl;
+          stated = g .stated;
         };
         did = λ h x.
             machine-ext (seen w) (seen (world (w .held) (freshDesk (highest st + 1)))) (sym (g .high)) (λ n. refl)

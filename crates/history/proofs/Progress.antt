@@ -112,7 +112,7 @@ module _ (w : World) (g : Good w) where
 
       -- behind what is asked of the row, nothing is refused
       passes : may r ≡ true → (rest : List (Bool × ℕ)) → firstOf (writing d u (w .held .status) v r rest) ≡ firstOf rest
-      passes can rest = may-pass d u (w .held .status) (w .desk) v r (view-few (w .desk) n) whole can rest
+      passes can rest = may-pass d u (w .held .status) (w .desk) v r (view-few (w .desk) n) whole (g .stated) can rest
 
       delete-done : may r ≡ true → isDone (says w (delete n r)) ≡ true
       unfolding deleteRefusal

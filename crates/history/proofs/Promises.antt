@@ -30,12 +30,12 @@ use Rattle.seen.proofs.Knowing.{sessionOf, sees-is}
 use Rattle.seen.proofs.Desks.{find-open, find-closed}
 use Rattle.history.specs.World.{World, says, after, afterAll, linesOf}
 use Rattle.history.specs.Asked.{Proper, AllProper, Run, start, end, history, allSpare, bodyRead, Matches, standingIn}
-use Rattle.history.specs.Theorems.{Reading, ReadingOutside, NothingElse, Unaltered, SweepAltersNone, KeepingAltersNone, BeginAltersNone, RowCallsAlterNone, OthersAlterNone, Restores, Empties, Spares, NoSix, SealedOpens, Count, RefusedLeaves, SeesExactlyWhenCommittedBefore, ByNumber, Formats, Begins, Nexts, Seals, Inserts, Deletes, Updates, Ends, Sweeps}
+use Rattle.history.specs.Theorems.{Reading, ReadingOutside, NothingElse, Unaltered, SweepAltersNone, KeepingAltersNone, BeginAltersNone, RowCallsAlterNone, OthersAlterNone, Restores, Empties, Spares, NoSix, NoSeventeen, NoneReservedEver, SealedOpens, Count, RefusedLeaves, SeesExactlyWhenCommittedBefore, ByNumber, Formats, Begins, Nexts, Seals, Inserts, Deletes, Updates, Ends, Sweeps}
 use Rattle.history.specs.Observers.{OpenOnDesk, StatementOnDesk, BodyOfTable, StandingOfRead}
 use Rattle.history.proofs.Worlds.{seen}
 use Rattle.history.proofs.Writes.{view-few}
 use Rattle.history.proofs.Answered.{Reads, read-answers, read-outside}
-use Rattle.history.proofs.Refused.{leaves, never-6}
+use Rattle.history.proofs.Refused.{leaves, never-6, never-17}
 use Rattle.history.proofs.Restored.{restored, inserted-empty, spared-rows}
 use Rattle.history.proofs.Counted.{all-calls, looked-few, read-stands}
 use Rattle.history.proofs.Reopened.{opens-again}
@@ -203,6 +203,12 @@ spares-others x n r before t = spared-rows (end x) (history x) (stands-end x) n 
 
 pub no-six : NoSix
 no-six x c e = never-6 (end x) (stands-end x .good) c e
+
+pub no-seventeen : NoSeventeen
+no-seventeen x c e = never-17 (end x) (stands-end x .good) c e
+
+pub none-reserved : NoneReservedEver
+none-reserved x = stands-end x .good .stated
 
 pub sealed-opens : SealedOpens
 sealed-opens x e = opens-again (end x) (history x) (stands-end x) e

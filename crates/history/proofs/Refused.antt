@@ -1,12 +1,12 @@
--- Refused calls leave the world as it was, of any world; and no call of a good world is refused under 6, because every chain is whole.
--- Assumes nothing.
+-- Refused calls leave the world as it was, of any world; and no call of a good world is refused under 6, because every chain is whole, or
+-- under 17, because no number is reserved. Assumes nothing.
 use Prim.Native.Nat.{ℕ, suc, _+_, _<_}
-use mathlib.Core.Path.{_≡_, refl, ap, sym, _∙_}
+use mathlib.Core.Path.{_≡_, refl, ap, ap₂, sym, _∙_}
 use mathlib.Core.Bool.{Bool, true, false, not, _&&_, _||_, cond}
 use mathlib.Core.List.{List, [], _∷_}
 use native.Mathlib.Omega.{arith}
 use lib.Dec.{eqb, ltb}
-use borrow.Author.Tests.{eqb-false, leb-false, ltb-false}
+use borrow.Author.Tests.{leb-false, ltb-false}
 use Rattle.ground.proofs.Ranges.{all-intro, or-false-left}
 use lib.ListN.{getD}
 use Rattle.columns.specs.Limits.{sessions, lastStatement}
@@ -25,6 +25,8 @@ use Rattle.chain.specs.Chain.{Version, chainOf}
 use Rattle.chain.specs.Walk.{firstIn, walkRule, thereIn}
 use Rattle.keep.specs.Keep.{formatRefusal, openRefusal, sealRefusal}
 use Rattle.turns.specs.Turns.{beginRefusal, nextRefusal, commitRefusal}
+use Rattle.doubt.specs.Doubt.{doubts}
+use Rattle.doubt.proofs.Doubts.{doubts-none}
 use Rattle.seeking.specs.Seeking.{noRow, isBroken, breaks, misses, says}
 use Rattle.rows.specs.Rows.{viewIn, badBody, insertRefusal, updateRefusal, deleteRefusal, readRefusal}
 use Rattle.putback.specs.PutBack.{ownMade}
@@ -71,19 +73,23 @@ refused-as w c n =
 pub done-ok : (w : World) (c : Call) → isDone (answerOf w c) ≡ true → refusalOf w c ≡ 0
 done-ok w c = step-settled w c (λ (t : Response). isDone (t .answer) ≡ true → refusalOf w c ≡ 0) (λ ok e. ok) (λ m e f. true-false false f refl)
 
--- ---- no 6
+-- ---- no 6 and no 17
 
--- a line that does not hold, or has another number, is not the one that gives 6
-past : (b : Bool) (n m : ℕ) → eqb n 6 ≡ false → cond b n m ≡ 6 → (b ≡ false) × (m ≡ 6)
-past true n m ne e = absurd (eqb-false n 6 ne e)
+-- the refusals that tell of a damaged store
+abbrev damage : ℕ → Bool
+damage n = eqb n 6 || eqb n 17
+
+-- a line that does not hold, or has another number, is not the one that tells of it
+past : (b : Bool) (n m : ℕ) → damage n ≡ false → damage (cond b n m) ≡ true → (b ≡ false) × (damage m ≡ true)
+past true n m ne e = true-false (damage n) e ne
 past false n m ne e = (refl, e)
 
-six-zero : _≡_ {A = ℕ} 0 6 → ⊥
-six-zero e = absurd (omega (arith, e))
+unharmed : damage 0 ≡ true → ⊥
+unharmed e = true-false false e refl
 
--- 7 to 10 and what stands behind them are asked after 6, 1, 2 and 4 before it
+-- 7 to 10 and what stands behind them are asked after 6 and 17, 1, 2 and 4 before them
 module _ (d s : List ℕ) (v : View) (r : ℕ) where
-  tail : (miss : Bool) (rest : ℕ) → cond miss 7 (cond (says d s v r 8) 8 (cond (says d s v r 9) 9 (cond (says d s v r 10) 10 rest))) ≡ 6 → rest ≡ 6
+  tail : (miss : Bool) (rest : ℕ) → damage (cond miss 7 (cond (says d s v r 8) 8 (cond (says d s v r 9) 9 (cond (says d s v r 10) 10 rest)))) ≡ true → damage rest ≡ true
   tail miss rest e =
       let a = past miss 7 (cond (says d s v r 8) 8 (cond (says d s v r 9) 9 (cond (says d s v r 10) 10 rest))) refl e in
       let b = past (says d s v r 8) 8 (cond (says d s v r 9) 9 (cond (says d s v r 10) 10 rest)) refl (a .1) in
@@ -91,10 +97,11 @@ module _ (d s : List ℕ) (v : View) (r : ℕ) where
       past (says d s v r 10) 10 rest refl (c .1) .1
 
 module _ (w : World) where
-  desk-asked : (rest : ℕ) → cond (badLength (w .held)) 1 (cond (not (sound (w .desk))) 2 rest) ≡ 6 → rest ≡ 6
+  desk-asked : (rest : ℕ) → damage (cond (badLength (w .held)) 1 (cond (not (sound (w .desk))) 2 rest)) ≡ true → damage rest ≡ true
   desk-asked rest e = past (not (sound (w .desk))) 2 rest refl (past (badLength (w .held)) 1 (cond (not (sound (w .desk))) 2 rest) refl e .1) .1
 
-  front : (x rest : ℕ) → cond (badLength (w .held)) 1 (cond (not (sound (w .desk))) 2 (cond (not (isOpen x (w .desk .numbers))) 4 rest)) ≡ 6 → rest ≡ 6
+  front : (x rest : ℕ) → damage (cond (badLength (w .held)) 1 (cond (not (sound (w .desk))) 2 (cond (not (isOpen x (w .desk .numbers))) 4 rest))) ≡ true
+      → damage rest ≡ true
   front x rest e = past (not (isOpen x (w .desk .numbers))) 4 rest refl (desk-asked (cond (not (isOpen x (w .desk .numbers))) 4 rest) e) .1
 
 -- along a whole chain no break is met
@@ -145,40 +152,45 @@ module _ (w : World) (g : Good w) where
   s = w .held .status
 
   -- a row call of a row of the area
-  row-call : (five : Bool) (v : View) (r : ℕ) (rest : ℕ) → (five ≡ false → r < rows d) → cond five 5 (cond (breaks d u s v r) 6 rest) ≡ 6 → rest ≡ 6
+  row-call : (five : Bool) (v : View) (r : ℕ) (rest : ℕ) → (five ≡ false → r < rows d)
+      → damage (cond five 5 (cond (breaks d u s v r) 6 (cond (doubts d u s v r) 17 rest))) ≡ true
+      → damage rest ≡ true
   row-call five v r rest inside e =
-      let f = past five 5 (cond (breaks d u s v r) 6 rest) refl e in
-      sym (ap (λ (b : Bool). cond b 6 rest) (walks v r (inside (f .0)))) ∙ f .1
+      let f = past five 5 (cond (breaks d u s v r) 6 (cond (doubts d u s v r) 17 rest)) refl e in
+      sym (ap₂ (λ (b t : Bool). damage (cond b 6 (cond t 17 rest))) (walks v r (inside (f .0))) (doubts-none d u s v r (g .stated))) ∙ f .1
 
   in-area : (r : ℕ) → noRow d r ≡ false → r < rows d
   unfolding noRow
   in-area r e = leb-false (rows d) r e
 
-  not-6 : (c : Call) → refusalOf w c ≡ 6 → ⊥
+  not-damaged : (c : Call) → damage (refusalOf w c) ≡ true → ⊥
   unfolding formatRefusal openRefusal sealRefusal beginRefusal nextRefusal insertRefusal updateRefusal deleteRefusal readRefusal commitRefusal withdrawRefusal sweepRefusal
-  not-6 (format a b c) e = six-zero (past (badLength (areas a b c)) 1 0 refl e .1)
-  not-6 opens e = six-zero (past (not (storeRight (w .held))) 3 0 refl (past (badLength (w .held)) 1 (cond (not (storeRight (w .held))) 3 0) refl e .1) .1)
-  not-6 seal e = six-zero (past (ltb 0 (openCount (w .desk .numbers))) 15 0 refl (desk-asked w _ e) .1)
-  not-6 begin e =
+  not-damaged (format a b c) e = unharmed (past (badLength (areas a b c)) 1 0 refl e .1)
+  not-damaged opens e = unharmed (past (not (storeRight (w .held))) 3 0 refl (past (badLength (w .held)) 1 (cond (not (storeRight (w .held))) 3 0) refl e .1) .1)
+  not-damaged seal e = unharmed (past (ltb 0 (openCount (w .desk .numbers))) 15 0 refl (desk-asked w _ e) .1)
+  not-damaged begin e =
       let c = past (eqb (openCount (w .desk .numbers)) sessions) 12 (cond (eqb (w .desk .next) lastNext) 13 0) refl (desk-asked w _ e) in
-      six-zero (past (eqb (w .desk .next) lastNext) 13 0 refl (c .1) .1)
-  not-6 (next x) e = six-zero (past (eqb (getD (w .desk .statements) (placeIn x (w .desk .numbers)) 0) lastStatement) 14 0 refl (front w x _ e) .1)
-  not-6 (insert x y) e =
-      six-zero (past (eqb (lowestEmpty d) (rows d)) 11 0 refl (past (badBody y) 5 (cond (eqb (lowestEmpty d) (rows d)) 11 0) refl (front w x _ e) .1) .1)
-  not-6 (update x q y) e =
+      unharmed (past (eqb (w .desk .next) lastNext) 13 0 refl (c .1) .1)
+  not-damaged (next x) e = unharmed (past (eqb (getD (w .desk .statements) (placeIn x (w .desk .numbers)) 0) lastStatement) 14 0 refl (front w x _ e) .1)
+  not-damaged (insert x y) e =
+      unharmed (past (eqb (lowestEmpty d) (rows d)) 11 0 refl (past (badBody y) 5 (cond (eqb (lowestEmpty d) (rows d)) 11 0) refl (front w x _ e) .1) .1)
+  not-damaged (update x q y) e =
       let r = row-call (noRow d q || badBody y) (viewIn (w .desk) x) q _ (λ f. in-area q (or-false-left (noRow d q) (badBody y) f)) (front w x _ e) in
-      six-zero (past (eqb (lowestFree u) (entries u)) 11 0 refl (tail d s (viewIn (w .desk) x) q (misses d u s (viewIn (w .desk) x) q) _ r) .1)
-  not-6 (delete x q) e =
+      unharmed (past (eqb (lowestFree u) (entries u)) 11 0 refl (tail d s (viewIn (w .desk) x) q (misses d u s (viewIn (w .desk) x) q) _ r) .1)
+  not-damaged (delete x q) e =
       let r = row-call (noRow d q) (viewIn (w .desk) x) q _ (in-area q) (front w x _ e) in
-      six-zero (tail d s (viewIn (w .desk) x) q (misses d u s (viewIn (w .desk) x) q) _ r)
-  not-6 (read x q) e =
+      unharmed (tail d s (viewIn (w .desk) x) q (misses d u s (viewIn (w .desk) x) q) _ r)
+  not-damaged (read x q) e =
       let r = row-call (noRow d q) (viewIn (w .desk) x) q _ (in-area q) (front w x _ e) in
-      six-zero (past (misses d u s (viewIn (w .desk) x) q) 7 0 refl r .1)
-  not-6 (commit x) e = six-zero (front w x 0 e)
-  not-6 (withdraw x) e = six-zero (sym (ap (λ (b : Bool). cond b 6 0) (withdraws x)) ∙ front w x (cond (someBroken x 0 d u) 6 0) e)
-  not-6 (sweep first quota) e =
+      unharmed (past (misses d u s (viewIn (w .desk) x) q) 7 0 refl r .1)
+  not-damaged (commit x) e = unharmed (front w x 0 e)
+  not-damaged (withdraw x) e = unharmed (sym (ap (λ (b : Bool). damage (cond b 6 0)) (withdraws x)) ∙ front w x (cond (someBroken x 0 d u) 6 0) e)
+  not-damaged (sweep first quota) e =
       let f = past (ltb (rows d) first) 5 (cond (not (allWhole d u first (treated d first quota))) 6 0) refl (desk-asked w _ e) in
-      six-zero (sym (ap (λ (b : Bool). cond b 6 0) (sweeps first quota (f .0))) ∙ f .1)
+      unharmed (sym (ap (λ (b : Bool). damage (cond b 6 0)) (sweeps first quota (f .0))) ∙ f .1)
 
   pub never-6 : (c : Call) → answerOf w c ≡ refused 6 → ⊥
-  never-6 c e = not-6 c (refused-as w c 6 e)
+  never-6 c e = not-damaged c (ap damage (refused-as w c 6 e))
+
+  pub never-17 : (c : Call) → answerOf w c ≡ refused 17 → ⊥
+  never-17 c e = not-damaged c (ap damage (refused-as w c 17 e))

@@ -30,7 +30,7 @@ use Rattle.seen.proofs.Standings.{standings-put}
 use Rattle.upheld.proofs.Withdrawals.{withdraw-rows, withdraw-whole, withdraw-shaped}
 use Rattle.upheld.proofs.Sweeps.{sweep-rows, sweep-whole, sweep-shaped}
 use Rattle.upheld.proofs.Headers.{sealable-undone, sealable-swept}
-use Rattle.upheld.proofs.Statuses.{sealable-status, highest-status}
+use Rattle.upheld.proofs.Statuses.{sealable-status, highest-status, unreserved-status}
 use Rattle.history.specs.World.{World, world, response}
 use Rattle.history.proofs.Worlds.{seen, Good, Goes, stay-allowed}
 use Rattle.history.proofs.Sessions.{found}
@@ -79,6 +79,7 @@ module _ (w : World) (g : Good w) where
             undo = upright .1;
             status = sealable-status x Withdrawn s (g .status);
             high = ap (λ (n : ℕ). n + 1) (highest-status x Withdrawn s) ∙ g .high;
+            stated = unreserved-status x Withdrawn s (o .from) (omega (arith, o .last)) page refl (g .stated);
           };
           did = λ h z. (
             found w g x opened,
@@ -121,6 +122,7 @@ module _ (w : World) (g : Good w) where
             undo = upright .1;
             status = g .status;
             high = g .high;
+            stated = g .stated;
           };
           did = λ h z. (
             n,

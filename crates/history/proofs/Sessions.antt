@@ -31,7 +31,7 @@ use Rattle.history.specs.World.{World, world, response}
 use Rattle.seen.proofs.Desks.{find-open, moved-sessions, moved-long, closed-sessions, closed-long, begun-sessions, begun-long}
 use Rattle.seen.proofs.Counts.{open-at-most}
 use Rattle.seen.proofs.Standings.{standings-put, standings-field}
-use Rattle.upheld.proofs.Statuses.{sealable-status, sealable-begun, highest-status, highest-begun}
+use Rattle.upheld.proofs.Statuses.{sealable-status, sealable-begun, highest-status, highest-begun, unreserved-status, unreserved-begun}
 use Rattle.history.proofs.Worlds.{seen, Good, Goes, stay-allowed}
 
 module _ (w : World) (g : Good w) where
@@ -62,6 +62,7 @@ module _ (w : World) (g : Good w) where
             undo = g .undo;
             status = g .status;
             high = g .high;
+            stated = g .stated;
           };
           did = λ h y. (
             found x (a .0 .passed .opened),
@@ -89,6 +90,7 @@ module _ (w : World) (g : Good w) where
             undo = g .undo;
             status = sealable-status x Committed (w .held .status) (g .status);
             high = ap (λ (n : ℕ). n + 1) (highest-status x Committed (w .held .status)) ∙ g .high;
+            stated = unreserved-status x Committed (w .held .status) (o .from) (omega (arith, o .last)) page refl (g .stated);
           };
           did = λ h y. (
             found x (a .0 .passed .opened),
@@ -130,6 +132,7 @@ module _ (w : World) (g : Good w) where
           undo = g .undo;
           status = sealable-begun number InWork number (w .held .status) (g .status);
           high = ap (λ (n : ℕ). n + 1) (highest-begun number (putStatus number InWork (w .held .status)) (omega (arith, few)) (longer ∙ page));
+          stated = unreserved-begun number InWork (w .held .status) (parts .first) (omega (arith, few)) page refl (g .stated) number;
         };
         did = λ h y. (
           refl,

@@ -7,6 +7,7 @@ use Rattle.desk.specs.Sound.{sound}
 use Rattle.sessions.proofs.Changes.{Long}
 use Rattle.kind.specs.Kind.{lengthsOk, dataKind, undoKind, statusKind}
 use Rattle.versions.specs.Versions.{AllWhole}
+use Rattle.doubt.specs.Doubt.{NoneReserved}
 use Rattle.keep.specs.Whole.{highest}
 use Rattle.keep.proofs.Promises.{Sealable}
 use Rattle.machine.specs.Lines.{Call, refused}
@@ -22,7 +23,7 @@ abbrev pub seen : World → Machine
 seen w = seenAs (w .held .«data») (w .held .undo) (w .held .status) (w .desk)
 
 -- lengths are allowed, the desk is sound, every chain is whole, every header is right but for its checksum, and the status page has the
--- highest number handed out
+-- highest number handed out and no number of status 11
 pub record Good (w : World) : Type 0 where
   pub lengths : lengthsOk (length (w .held .«data»)) (length (w .held .undo)) (length (w .held .status)) ≡ true
   pub sound : sound (w .desk) ≡ true
@@ -32,6 +33,7 @@ pub record Good (w : World) : Type 0 where
   pub undo : Sealable undoKind (w .held .undo)
   pub status : Sealable statusKind (w .held .status)
   pub high : highest (w .held .status) + 1 ≡ w .desk .next
+  pub stated : NoneReserved (w .held .status)
 
 -- the call leaves such a world, and did on the machine what its answer says
 pub record Goes (w : World) (c : Call) (t : Response) : Type 0 where

@@ -76,6 +76,7 @@ module _ (w : World) (g : Good w) (x : ℕ) where
             undo = g .undo;
             status = g .status;
             high = g .high;
+            stated = g .stated;
           };
           did = λ h z. (
             rw (found w g x o) (ap isNil (row-empty d u r (lowestEmpty-empty d (a .room)))),
@@ -109,6 +110,7 @@ module _ (w : World) (g : Good w) (x : ℕ) where
             undo = g .undo;
             status = g .status;
             high = g .high;
+            stated = g .stated;
           };
           did = λ h z. (
             may o can,
@@ -141,6 +143,7 @@ module _ (w : World) (g : Good w) (x : ℕ) where
               undo = sealable-updatedUndo x c r e d u (g .«data» .bytes) (g .undo);
               status = g .status;
               high = g .high;
+              stated = g .stated;
             };
             did = λ h z. (
               may o can,

@@ -12,6 +12,7 @@ use Rattle.places.specs.Open.{openCount}
 use Rattle.kind.specs.Kind.{lengthsOk, rows, entries}
 use Rattle.records.specs.Entry.{entryAt}
 use Rattle.sight.specs.Sight.{sees}
+use Rattle.doubt.specs.Doubt.{NoneReserved}
 use Rattle.rows.specs.Rows.{viewIn}
 use Rattle.machine.specs.Table.{Body, plainTable, openIn, committedBefore, hasWritten, numberTable, whenBegan, writesBefore, statementOf, play, mayWrite}
 use Rattle.machine.specs.Lines.{Call, format, opens, seal, begin, next, insert, update, delete, read, commit, withdraw, sweep, refused, done, isDone}
@@ -77,6 +78,14 @@ Spares = (x : Run) (n r : ℕ) → hasWritten (history x) n r ≡ false → isDo
 -- 4, NO CALL ANSWERS 6
 abbrev pub NoSix : Type 0
 NoSix = (x : Run) (c : Call) → says (end x) c ≡ refused 6 → ⊥
+
+-- and none answers 17 ("02, T-05": "Histories under demand 3 never meet 17")
+abbrev pub NoSeventeen : Type 0
+NoSeventeen = (x : Run) (c : Call) → says (end x) c ≡ refused 17 → ⊥
+
+-- because every status is one of three: no call writes 11
+abbrev pub NoneReservedEver : Type 0
+NoneReservedEver = (x : Run) → NoneReserved (end x .held .status)
 
 -- and open straight after an accepted seal is done, so that it never answers 3
 abbrev pub SealedOpens : Type 0

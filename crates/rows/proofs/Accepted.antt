@@ -29,6 +29,7 @@ use Rattle.chain.proofs.Walks.{walk-body}
 use Rattle.admit.proofs.Admissions.{Admits, accepts, admits-from, admits-session, admits-statement, admits-lent}
 use Rattle.vacant.specs.Vacant.{lowestEmpty, lowestFree}
 use Rattle.vacant.proofs.Vacants.{lowestEmpty-lt, lowestFree-lt, lowestFree-free}
+use Rattle.doubt.specs.Doubt.{doubts}
 use Rattle.seeking.specs.Seeking.{noRow, isBroken, breaks, isAbsent, misses, writeRefusal}
 use Rattle.seeking.proofs.Seekings.{Writable, reading, writing, write-passed}
 use Rattle.writing.specs.Writing.{made, expired, inserted, updatedData, updatedUndo, deleted}
@@ -222,7 +223,8 @@ module _ (d u s : List ℕ) (desk : Desk) (x : ℕ) where
         let a = accepts d u s desk x (reading d u s (viewIn desk x) r []) ok in
         let n = firstOf-none (noRow d r) 5 _ (λ z. omega arith) (a .1) in
         let b = firstOf-none (isBroken w) 6 _ (λ z. omega arith) (n .1) in
-        let m = firstOf-none (isAbsent w) 7 _ (λ z. omega arith) (b .1) in
+        let t = firstOf-none (doubts d u s (viewIn desk x) r) 17 _ (λ z. omega arith) (b .1) in
+        let m = firstOf-none (isAbsent w) 7 _ (λ z. omega arith) (t .1) in
         by (a .0) (leb-false (rows d) r (n .0)) w refl (b .0) (m .0)
       where
         by : Session → r < rows d → (w : Walk) → walkRule d u s (viewIn desk x) r ≡ w → isBroken w ≡ false → isAbsent w ≡ false → Reads

@@ -27,6 +27,7 @@ use Rattle.admit.specs.declared.Admitted.the-variants.{Refused}
 use Rattle.admit.proofs.Admissions.{Admits, admission, refuses, goes-on, admits-at, admits-place, admits-number, admits-sound}
 use Rattle.vacant.specs.Vacant.{lowestEmpty, lowestFree}
 use Rattle.vacant.proofs.Vacants.{lowestEmpty-lt, lowestFree-lt}
+use Rattle.doubt.specs.Doubt.{doubts}
 use Rattle.seeking.specs.declared.Sought.{Sought}
 use Rattle.seeking.specs.declared.Sought.the-variants.{Found, Refused as Unfound}
 use Rattle.seeking.specs.Seeking.{noRow, breaks, misses, says, seekRule, writeRefusal}
@@ -183,6 +184,7 @@ module _ (d u s : List ℕ) (desk : Desk) (x r : ℕ) (body : List ℕ) where
   updateRest b =
       (b, 5)
       ∷ (breaks d u s (viewIn desk x) r, 6)
+      ∷ (doubts d u s (viewIn desk x) r, 17)
       ∷ (misses d u s (viewIn desk x) r, 7)
       ∷ (says d s (viewIn desk x) r 8, 8)
       ∷ (says d s (viewIn desk x) r 9, 9)

@@ -1,26 +1,36 @@
--- The promises of insert, update, delete and read: no second result meets their contracts, and a refused call leaves the areas as they
--- were and reports no numbers. Assumes nothing.
+-- The promises of insert, update, delete and read: no second result meets their contracts, a refused call leaves the areas as they were
+-- and reports no numbers, and 9 comes of no reserved number. Assumes nothing.
 use mathlib.Core.Path.{_≡_, refl, sym, ap, _∙_}
 use mathlib.Core.List.{List, []}
-use Prim.Native.Nat.{ℕ}
+use mathlib.Core.Bool.{Bool, false, not, _||_, cond}
+use Prim.Native.Nat.{ℕ, zero, suc}
+use native.Mathlib.Omega.{arith}
 use Rattle.ground.specs.Does.{Does}
+use Rattle.ground.specs.Refuse.{settle}
 use Rattle.ground.proofs.Once.{once}
-use Rattle.ground.proofs.Refusals.{settled}
+use Rattle.ground.proofs.Refusals.{firstOf-past, settled}
 use Rattle.answer.specs.declared.Answer.{Answer}
 use Rattle.answer.specs.Code.{codeOf}
 use Rattle.answer.proofs.Codes.{codeOf-injective}
 use Rattle.desk.specs.declared.Desk.{Desk}
-use Rattle.kind.specs.Areas.{Areas}
+use Rattle.desk.specs.Sound.{sound}
+use Rattle.places.specs.Open.{isOpen}
+use Rattle.kind.specs.Areas.{Areas, badLength}
+use Rattle.records.specs.Slot.{slotAt}
 use Rattle.chain.specs.declared.Place.{Place}
 use Rattle.chain.specs.declared.Place.the-variants.{Nowhere}
 use Rattle.chain.specs.declared.Walk.{Walk}
 use Rattle.chain.specs.declared.Walk.the-variants.{Found, Absent, Broken}
 use Rattle.chain.specs.Walk.{walkRule, bodyOf}
+use Rattle.doubt.specs.Doubt.{doubtIn}
+use Rattle.seeking.specs.Seeking.{noRow}
+use Rattle.seeking.proofs.Seekings.{slotSays, nine-clear}
 use Rattle.vacant.specs.Vacant.{lowestEmpty}
 use Rattle.writing.specs.Writing.{inserted, deleted}
 use Rattle.rows.specs.declared.Inserted.{Inserted}
 use Rattle.rows.specs.declared.Seen.{Seen}
-use Rattle.rows.specs.Rows.{saidInserted, saidSeen, viewIn, insertRefusal, insertRule, updateRefusal, updated, updateRule, deleteRefusal, deleteRule, seenBy, readRefusal, readRule}
+use Rattle.rows.specs.Rows.{saidInserted, saidSeen, viewIn, badBody, insertRefusal, insertRule, updateRefusal, updated, updateRule, deleteRefusal, deleteRule, seenBy, readRefusal, readRule}
+use Rattle.rows.proofs.Calls.{updateRoom}
 
 -- ---- no second result
 
@@ -106,3 +116,37 @@ module _ (a : Areas) (d : Desk) (x : ℕ) where
         done (Found place n) = refl
         done Absent = refl
         done Broken = refl
+
+-- ---- 9 comes of no reserved number ("02, T-05"): where it is answered, no number that the slot names is in doubt
+
+-- behind 1, 2 and 4
+behind-four : (a : Areas) (d : Desk) (x rest : ℕ) → cond (badLength a) 1 (cond (not (sound d)) 2 (cond (not (isOpen x (d .numbers))) 4 rest)) ≡ 9 → rest ≡ 9
+behind-four a d x rest e =
+    let l = firstOf-past 9 (badLength a) 1 (cond (not (sound d)) 2 (cond (not (isOpen x (d .numbers))) 4 rest)) (λ z. omega arith) e in
+    let k = firstOf-past 9 (not (sound d)) 2 (cond (not (isOpen x (d .numbers))) 4 rest) (λ z. omega arith) (l .1) in
+    firstOf-past 9 (not (isOpen x (d .numbers))) 4 rest (λ z. omega arith) (k .1) .1
+
+-- the number answered is the one that the list gives
+answered : {A : Type 0} (done : A) (refused : ℕ → A) (code : A → ℕ) → code done ≡ 0 → ((n : ℕ) → code (refused n) ≡ n) → (n : ℕ)
+    → code (settle n done refused) ≡ 9
+    → n ≡ 9
+answered done refused code zeroes tells zero h = absurd (omega (arith, zeroes, h))
+answered done refused code zeroes tells (suc n) h = sym (tells (suc n)) ∙ h
+
+module _ (a : Areas) (d : Desk) (x r : ℕ) where
+  -- the slot names no number in doubt
+  abbrev Clear : Type 0
+  Clear = doubtIn (viewIn d x .number) (a .status) (slotAt r (a .«data»)) ≡ false
+
+  pub update-nine : (body : List ℕ) → updateRule a d x r body .0 ≡ 9 → Clear
+  unfolding updateRule updateRefusal
+  update-nine body h =
+      let rest : List (Bool × ℕ) = slotSays (a .«data») (a .undo) (a .status) (viewIn d x) r (updateRoom (a .«data») (a .undo) (a .status) d x r body) in
+      nine-clear (a .«data») (a .undo) (a .status) (viewIn d x) r (noRow (a .«data») r || badBody body) rest
+      (behind-four a d x _ (answered (0, updated a d x r body) (λ (n : ℕ). (n, a)) (λ (y : ℕ × Areas). y .0) refl (λ n. refl) (updateRefusal a d x r body) h))
+
+  pub delete-nine : deleteRule a d x r .0 ≡ 9 → Clear
+  unfolding deleteRule deleteRefusal
+  delete-nine h =
+      nine-clear (a .«data») (a .undo) (a .status) (viewIn d x) r (noRow (a .«data») r) (slotSays (a .«data») (a .undo) (a .status) (viewIn d x) r [])
+      (behind-four a d x _ (answered (0, deleted x (viewIn d x .statement) r (a .«data»)) (λ (n : ℕ). (n, a .«data»)) (λ (y : ℕ × List ℕ). y .0) refl (λ n. refl) (deleteRefusal a d x r) h))

@@ -1,5 +1,5 @@
 -- The rules of insert, update, delete and read: what each answers, and what it leaves in the areas that it writes ("01, Writes,
--- withdrawal, sweep", "01, When the desk says no"). Assumes nothing.
+-- withdrawal, sweep", "01, When the desk says no"); 17 "stands between 6 and 7" ("02, T-05"). Assumes nothing.
 use Prim.Native.Nat.{ℕ}
 use mathlib.Core.Bool.{Bool, not, _||_}
 use mathlib.Core.List.{List, [], _∷_}
@@ -20,6 +20,7 @@ use Rattle.chain.specs.declared.Walk.{Walk}
 use Rattle.chain.specs.declared.Walk.the-variants.{Found, Absent, Broken}
 use Rattle.chain.specs.Walk.{walkRule}
 use Rattle.vacant.specs.Vacant.{lowestEmpty, lowestFree}
+use Rattle.doubt.specs.Doubt.{doubts}
 use Rattle.seeking.specs.Seeking.{noRow, breaks, misses, says}
 use Rattle.writing.specs.Writing.{inserted, updatedData, updatedUndo, deleted}
 use Rattle.rows.specs.declared.Inserted.{Inserted}
@@ -71,6 +72,7 @@ updateRefusal a d x r body =
     ∷ (not (isOpen x (d .numbers)), 4)
     ∷ (noRow (a .«data») r || badBody body, 5)
     ∷ (breaks (a .«data») (a .undo) (a .status) (viewIn d x) r, 6)
+    ∷ (doubts (a .«data») (a .undo) (a .status) (viewIn d x) r, 17)
     ∷ (misses (a .«data») (a .undo) (a .status) (viewIn d x) r, 7)
     ∷ (says (a .«data») (a .status) (viewIn d x) r 8, 8)
     ∷ (says (a .«data») (a .status) (viewIn d x) r 9, 9)
@@ -99,6 +101,7 @@ deleteRefusal a d x r =
     ∷ (not (isOpen x (d .numbers)), 4)
     ∷ (noRow (a .«data») r, 5)
     ∷ (breaks (a .«data») (a .undo) (a .status) (viewIn d x) r, 6)
+    ∷ (doubts (a .«data») (a .undo) (a .status) (viewIn d x) r, 17)
     ∷ (misses (a .«data») (a .undo) (a .status) (viewIn d x) r, 7)
     ∷ (says (a .«data») (a .status) (viewIn d x) r 8, 8)
     ∷ (says (a .«data») (a .status) (viewIn d x) r 9, 9)
@@ -120,11 +123,12 @@ readRefusal a d x r =
     ∷ (not (isOpen x (d .numbers)), 4)
     ∷ (noRow (a .«data») r, 5)
     ∷ (breaks (a .«data») (a .undo) (a .status) (viewIn d x) r, 6)
+    ∷ (doubts (a .«data») (a .undo) (a .status) (viewIn d x) r, 17)
     ∷ (misses (a .«data») (a .undo) (a .status) (viewIn d x) r, 7)
     ∷ [])
 
--- where the version found lies, and "how many versions it looked at, the answer included"; where there is none the call is refused, by 6 or
--- 7, and this is not asked
+-- where the version found lies, and "how many versions it looked at, the answer included"; where there is none the call is refused, by 6,
+-- 17 or 7, and this is not asked
 abbrev pub seenBy : Walk → ℕ × Place × ℕ
 seenBy (Found place n) = (0, place, n)
 seenBy Absent = (0, Nowhere, 0)

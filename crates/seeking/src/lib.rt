@@ -1,8 +1,8 @@
-// What read, update and delete ask of a row, once the session is admitted ("01, When the desk says no", 5 to 10): the row, the version
-// that the session reads, and for a write what the slot says.
+// What read, update and delete ask of a row, once the session is admitted ("01, When the desk says no", 5 to 10, and "02, T-05", 17): the
+// row, the version that the session reads, doubt on the way to it, and for a write what the slot says.
 use answer::Answer;
 use chain::Place;
-use chain::Walk;
+use doubt::Look;
 ghost use mathlib.Core.Path.{_≡_};
 ghost use lib.ListN.{length};
 ghost use Rattle.answer.specs.Code.{codeOf};
@@ -16,14 +16,15 @@ pub enum Sought {
     Refused(Answer),
 }
 
-// What a walk without a version refuses: "broken chain met before a version is found", "no version there".
-fn none_found(w: Walk) -> Answer
+// What a walk without a version refuses: "broken chain met before a version is found", a version in doubt, "no version there".
+fn none_found(w: Look) -> Answer
     ensures { λ r. ⌜ r ≡ refusalIn (soughtBy w) ⌝ }
 {
     match w {
-        Walk::Found(_, _) => Answer::Done,
-        Walk::Absent => Answer::NotThere,
-        Walk::Broken => Answer::Broken,
+        Look::Found(_, _) => Answer::Done,
+        Look::Absent => Answer::NotThere,
+        Look::Broken => Answer::Broken,
+        Look::Doubted => Answer::InDoubt,
     }
 }
 
@@ -43,14 +44,14 @@ pub fn seek<'a>(
     if row >= kind::rows(data) {
         return Sought::Refused(Answer::BadArgument);
     }
-    let w = chain::search(data, undo, status, number, statement, list, row);
-    let Walk::Found(place, looked) = w else {
+    let w = doubt::search(data, undo, status, number, statement, list, row);
+    let Look::Found(place, looked) = w else {
         return Sought::Refused(none_found(w));
     };
     Sought::Found(place, looked)
 }
 
-// Whether the session may write a row: done, or the first of 5 to 10 that holds. "Once 7 is passed, look at the slot."
+// Whether the session may write a row: done, or the first of 5, 6, 17 and 7 to 10 that holds. "Once 7 is passed, look at the slot."
 pub fn may_write<'a>(
     data: &'a [u8],
     undo: &'a [u8],

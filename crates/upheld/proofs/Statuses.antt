@@ -1,9 +1,12 @@
 -- The status page keeps its header right but for the checksum, whatever status is put and whatever number is handed out, and says the
--- highest number as it was written; so do areas as format writes them and as seal leaves them. Assumes nothing.
+-- highest number as it was written; so do areas as format writes them and as seal leaves them. No number gets status 11 by any of it.
+-- Assumes nothing.
 use mathlib.Core.Path.{_≡_, ap, _∙_}
+use mathlib.Core.Bool.{Bool, true, false, cond}
 use mathlib.Core.List.{List}
-use Prim.Native.Nat.{ℕ, zero, suc, _+_, _^_, _<_}
+use Prim.Native.Nat.{ℕ, zero, suc, _+_, _^_, _≤_, _<_}
 use native.Mathlib.Omega.{arith}
+use lib.Dec.{eqb}
 use lib.ListN.{length}
 use Rattle.kind.specs.declared.Kind.{Kind}
 use Rattle.kind.specs.Kind.{pages, statusKind}
@@ -17,6 +20,10 @@ use Rattle.whole.proofs.Headers.{headerRight-putStatus}
 use Rattle.whole.proofs.Rights.{Fitting, headerRight-freshPage}
 use Rattle.keep.specs.Whole.{freshArea, sealedArea, highest}
 use Rattle.keep.proofs.Promises.{Sealable, length-freshArea, bytes-freshArea, pageAt-freshArea}
+use Rattle.sight.specs.Sight.{standing}
+use Rattle.doubt.specs.Doubt.{isReserved, reserved, NoneReserved}
+use Rattle.seen.proofs.Standings.{standing-put, standing-field}
+use Rattle.upheld.proofs.Kept.{sealed-standing, fresh-standing}
 use Rattle.upheld.proofs.Pages.{sealable-txnId, sealable-checksum}
 
 -- ---- a status put
@@ -40,6 +47,29 @@ highest-status n v s = fieldIn-putStatus txnId 0 n v s (omega arith)
 pub highest-begun : (x : ℕ) (s : List ℕ) → x < 2 ^ 64 → length s ≡ 8192 → highest (putField txnId 0 x s) ≡ x
 unfolding highest
 highest-begun x s fits long = fieldIn-putField txnId 0 x s (omega arith) fits (omega arith)
+
+-- ---- no number is reserved, as long as none is put so
+
+module _ (n : ℕ) (v : Status) (s : List ℕ) (low : 1 ≤ n) (high : n ≤ 32575) (long : length s ≡ 8192) (one : isReserved v ≡ false) (none : NoneReserved s) where
+  pub unreserved-status : NoneReserved (putStatus n v s)
+  unfolding reserved
+  unreserved-status x = standing-put n v s low high long isReserved x ∙ by (eqb x n)
+    where
+      by : (b : Bool) → cond b (isReserved v) (isReserved (standing x s)) ≡ false
+      by true = one
+      by false = none x
+
+  pub unreserved-begun : (y : ℕ) → NoneReserved (putField txnId 0 y (putStatus n v s))
+  unfolding reserved
+  unreserved-begun y x = ap isReserved (standing-field txnId y (putStatus n v s) (omega arith) x) ∙ unreserved-status x
+
+pub unreserved-sealed : (s : List ℕ) → NoneReserved s → NoneReserved (sealedArea (pages s) s)
+unfolding reserved
+unreserved-sealed s none x = ap isReserved (sealed-standing s x) ∙ none x
+
+pub unreserved-fresh : NoneReserved (freshArea statusKind 1)
+unfolding reserved
+unreserved-fresh x = ap isReserved (fresh-standing x)
 
 -- ---- after seal
 

@@ -3,8 +3,9 @@
 use std::error::Error;
 use std::fmt;
 
-/// Why a call did nothing, with the numbers of 01, "When the desk says no", and what a station does
-/// about it.
+/// Why a call did nothing, with the numbers of 01, "When the desk says no", and of document 02, and
+/// what a station does about it. Number 16 is no refusal of a call: the script's program answers it
+/// to a line that is ill formed.
 #[derive(Clone, Copy, Debug, PartialEq, Eq)]
 #[non_exhaustive]
 #[repr(u32)]
@@ -60,10 +61,17 @@ pub enum Refusal {
     /// Seal found an open session. Commit or withdraw the sessions at the
     /// [desk](crate::Store::desk), and seal again.
     SessionOpen = 15,
+    /// A version of the row that was looked at names a number, other than the session's own, whose
+    /// status is 11: reserved, and written by no call. The status page is damaged, and whether that
+    /// number was committed cannot be told. A store that the calls alone wrote since its format
+    /// never answers it. Go back to a copy that was sealed; rows whose versions name no such number
+    /// can still be read. It stands between [`BrokenChain`](Self::BrokenChain) and
+    /// [`NoVersion`](Self::NoVersion) where several refusals apply.
+    ReservedStatus = 17,
 }
 
 impl Refusal {
-    const ALL: [Self; 15] = [
+    const ALL: [Self; 16] = [
         Self::AreaLength,
         Self::UnsoundDesk,
         Self::UnsoundStore,
@@ -79,9 +87,10 @@ impl Refusal {
         Self::NumbersUsedUp,
         Self::StatementsUsedUp,
         Self::SessionOpen,
+        Self::ReservedStatus,
     ];
 
-    /// The number that document 01 gives this refusal.
+    /// The number that document 01 or 02 gives this refusal.
     pub const fn number(self) -> u32 {
         self as u32
     }
@@ -111,6 +120,7 @@ impl Refusal {
             Self::NumbersUsedUp => "all numbers are handed out",
             Self::StatementsUsedUp => "the session is in its last statement",
             Self::SessionOpen => "a session is open",
+            Self::ReservedStatus => "a number that the row names has the reserved status",
         }
     }
 }

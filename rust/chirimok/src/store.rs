@@ -16,8 +16,8 @@ use crate::{Desk, Refusal, Row, Session, ffi};
 /// Each call checks the lengths and the desk first: every call can answer [`Refusal::AreaLength`],
 /// and every one but format and open [`Refusal::UnsoundDesk`]. A store that came from format or
 /// open never answers these two. The other refusals are listed at each call. Where several apply,
-/// the lowest number is given. How many pages a store has is not kept in its areas: open as many as
-/// were formatted.
+/// the lowest number is given, but that 17, [`Refusal::ReservedStatus`], stands between 6 and 7.
+/// How many pages a store has is not kept in its areas: open as many as were formatted.
 ///
 /// # One desk for one store
 ///
@@ -92,7 +92,7 @@ fn answered(number: u32) -> Result<(), Refusal> {
     if number == 0 {
         return Ok(());
     }
-    Err(Refusal::from_number(number).expect("the library answers with the numbers of document 01"))
+    Err(Refusal::from_number(number).expect("the library answers with the numbers of a refusal"))
 }
 
 impl<A: AsRef<[u8]> + AsMut<[u8]>> Store<A> {
@@ -191,8 +191,8 @@ impl<A: AsRef<[u8]> + AsMut<[u8]>> Store<A> {
             .map(|()| Row::from_number(out[0]))
     }
 
-    /// Replaces the row's body and keeps the old one for those who still read it. Numbers 4 to 11
-    /// of [`Refusal`].
+    /// Replaces the row's body and keeps the old one for those who still read it. Numbers 4 to 6,
+    /// 17 and 7 to 11 of [`Refusal`], in this order.
     pub fn update(&mut self, session: Session, row: Row, body: &[u8]) -> Result<(), Refusal> {
         let Self { data, undo, status, desk } = self;
         let (data, undo, status) = (data.as_mut(), undo.as_mut(), status.as_ref());
@@ -201,7 +201,7 @@ impl<A: AsRef<[u8]> + AsMut<[u8]>> Store<A> {
     }
 
     /// Deletes the row for the session's later statements and, once it commits, for all who begin
-    /// after. Numbers 4 to 10 of [`Refusal`].
+    /// after. Numbers 4 to 6, 17 and 7 to 10 of [`Refusal`], in this order.
     pub fn delete(&mut self, session: Session, row: Row) -> Result<(), Refusal> {
         let Self { data, undo, status, desk } = self;
         let (data, undo, status) = (data.as_mut(), undo.as_ref(), status.as_ref());
@@ -209,7 +209,8 @@ impl<A: AsRef<[u8]> + AsMut<[u8]>> Store<A> {
         answered(ffi::delete(data, undo, status, desk.words(), session, row))
     }
 
-    /// Finds the version of the row that is there for the session. Numbers 4 to 7 of [`Refusal`].
+    /// Finds the version of the row that is there for the session. Numbers 4 to 6, 17 and 7 of
+    /// [`Refusal`], in this order.
     pub fn read(&self, session: Session, row: Row) -> Result<Reading<'_>, Refusal> {
         let (data, undo, status) = (self.data(), self.undo(), self.status());
         let (session, row) = (session.number(), row.number());

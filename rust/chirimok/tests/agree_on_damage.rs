@@ -19,6 +19,11 @@ fn agree_on_odd_bytes() {
 }
 
 #[test]
+fn agree_on_reserved_numbers() {
+    damage::agree(BOTH, &damage::reserved_numbers(), damage::working_store, 400);
+}
+
+#[test]
 fn agree_on_wrong_headers() {
     damage::agree(BOTH, &damage::wrong_headers(), damage::sealed_store, 200);
 }

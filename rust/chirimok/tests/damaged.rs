@@ -197,7 +197,7 @@ fn a_wrong_status_page_is_3() {
     status("number 6, above the highest, has status 11", 0, |s| s[49] |= 0b0011_0000);
 }
 
-/// "Lowest number first, among those that the call can give."
+/// "Lowest number first, among those that the call can give"; where 17 stands is in `reserved.rs`.
 #[test]
 fn the_lowest_of_two_causes_is_given() {
     let working = working();

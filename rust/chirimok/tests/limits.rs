@@ -128,7 +128,7 @@ fn the_header_has_the_same_refusals() {
     let refusals: Vec<_> = (0..100).filter_map(Refusal::from_number).collect();
     for &refusal in &refusals {
         let (name, number) = (header_name(refusal), refusal.number());
-        let comma = if number == 15 { "\n" } else { ",\n" };
+        let comma = if Some(&refusal) == refusals.last() { "\n" } else { ",\n" };
         has(format!("    {name} = {number}{comma}"));
         has(format!("    case {name}:\n        return \"{}\";\n", refusal.message()));
         has(format!("\n * {number:4}  "));

@@ -3,13 +3,15 @@
 use chirimok::limits::{PAGE, WORDS};
 use chirimok::{Refusal, Row, Session, Store};
 
+/// 1 to 15, and 17 of 02, T-05; 0 is done, and 16 is a line of a script that is ill formed.
 #[test]
-fn refusals_have_the_numbers_of_document_01() {
-    for number in 1..=15 {
+fn refusals_have_their_numbers() {
+    for number in (1..=15).chain([17]) {
         assert_eq!(Refusal::from_number(number).map(Refusal::number), Some(number));
     }
-    assert_eq!(Refusal::from_number(0), None);
-    assert_eq!(Refusal::from_number(16), None);
+    for number in [0, 16, 18] {
+        assert_eq!(Refusal::from_number(number), None);
+    }
 }
 
 #[test]

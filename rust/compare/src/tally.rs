@@ -3,9 +3,12 @@
 use crate::random::named_seed;
 use crate::{Answer, Call};
 
+/// The highest number that a call answers.
+const HIGHEST: usize = 17;
+
 /// A count for each call and number.
 #[derive(Default)]
-pub struct Tally([[u64; 16]; 12]);
+pub struct Tally([[u64; HIGHEST + 1]; 12]);
 
 impl Tally {
     pub fn add(&mut self, call: &Call, answer: Answer) {

@@ -16,6 +16,7 @@ fn histories_show_each_number() {
 fn damages_show_their_refusals() {
     damage::agree(SAME, &damage::broken_chains(), damage::working_store, 60);
     damage::agree(SAME, &damage::odd_bytes(), damage::working_store, 60);
+    damage::agree(SAME, &damage::reserved_numbers(), damage::working_store, 60);
     damage::agree(SAME, &damage::wrong_headers(), damage::sealed_store, 60);
     damage::agree(SAME, &damage::desks(), damage::working_store, 60);
     damage::agree(SAME, &damage::lengths(), damage::working_store, 10);

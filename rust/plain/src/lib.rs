@@ -3,8 +3,9 @@
 //!
 //! The store works on three areas lent by the caller (data, undo and status, in pages of 8,192
 //! bytes) and on a [`Desk`] that holds the open sessions. Nothing is allocated and nothing is kept
-//! between calls. Every call answers exactly as document 01 says for arbitrary bytes in the areas
-//! and arbitrary desks, and a refused call leaves both as they were.
+//! between calls. Every call answers exactly as document 01 says, with T-03 and T-05 of document
+//! 02, for arbitrary bytes in the areas and arbitrary desks, and a refused call leaves both as they
+//! were.
 //!
 //! Arguments stand in the same order everywhere: data, undo, status, desk, session, row, body.
 

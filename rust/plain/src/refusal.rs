@@ -1,6 +1,7 @@
 //! The refusal numbers.
 
-/// Why a call did nothing, with the numbers of 01, "When the desk says no".
+/// Why a call did nothing, with the numbers of 01, "When the desk says no", and of document 02. A
+/// call gives the lowest that applies, but that 17 stands between 6 and 7.
 #[derive(Clone, Copy, Debug, PartialEq, Eq)]
 #[repr(u32)]
 pub enum Refusal {
@@ -34,10 +35,12 @@ pub enum Refusal {
     StatementsUsedUp = 14,
     /// Seal found an open session.
     SessionOpen = 15,
+    /// A version that was looked at names a number with the reserved status (02, T-05).
+    ReservedStatus = 17,
 }
 
 impl Refusal {
-    /// The number that document 01 gives this refusal.
+    /// The number that document 01 or 02 gives this refusal.
     pub const fn number(self) -> u32 {
         self as u32
     }

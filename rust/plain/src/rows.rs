@@ -49,7 +49,8 @@ pub fn insert(
     Ok(row as u64)
 }
 
-/// Replaces a row's version and keeps the old one in an undo entry. Refusals: 1, 2, 4 to 11.
+/// Replaces a row's version and keeps the old one in an undo entry. Refusals: 1, 2, 4 to 6, 17, 7
+/// to 11.
 pub fn update(
     data: &mut [u8],
     undo: &mut [u8],
@@ -76,7 +77,7 @@ pub fn update(
     Ok(())
 }
 
-/// Marks a row's version as expired by the session. Refusals: 1, 2, 4 to 10.
+/// Marks a row's version as expired by the session. Refusals: 1, 2, 4 to 6, 17, 7 to 10.
 pub fn delete(
     data: &mut [u8],
     undo: &[u8],
@@ -96,7 +97,7 @@ pub fn delete(
     Ok(())
 }
 
-/// Finds the version of a row that is there for the session. Refusals: 1, 2, 4 to 7.
+/// Finds the version of a row that is there for the session. Refusals: 1, 2, 4 to 6, 17, 7.
 pub fn read(
     data: &[u8],
     undo: &[u8],
@@ -114,7 +115,8 @@ pub fn read(
     Ok(Reading { count, body: Place { area, at: at + BODY_AT } })
 }
 
-/// Refusals 6 to 10: a version must be there, and the slot must let the session write.
+/// Refusals 6, 17 and 7 to 10: a version must be there, nothing in doubt, and the slot must let the
+/// session write.
 fn check_writable(
     data: &[u8],
     undo: &[u8],

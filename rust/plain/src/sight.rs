@@ -1,11 +1,11 @@
 //! What a session sees, and whom it would overwrite (01, Sessions and sight, and When the desk says
-//! no).
+//! no; 02, T-05).
 
 use crate::Refusal;
 use crate::chain::{Chain, Version};
 use crate::desk::Session;
 use crate::slot::Meta;
-use crate::status::committed;
+use crate::status::{committed, reserved};
 
 impl Session<'_> {
     /// "S sees X when X is not 0, is below S's number, is not in S's list and has status 01."
@@ -34,20 +34,34 @@ impl Session<'_> {
             && !(meta.expire != 0 && self.knows(status, meta.expire, meta.expire_cmd))
     }
 
-    /// The first version that is there, and how many were looked at; refusal 6 where a break comes
-    /// first, 7 where no version is there.
+    /// Whether "the creator or expirer, other than the acting session, has status 11" (02, T-05).
+    /// Hardly ever has the one, so the other is asked without waiting for it.
     #[inline]
-    pub fn find(&self, status: &[u8], chain: Chain<'_>) -> Result<(u64, Version), Refusal> {
-        for (version, count) in chain.zip(1..) {
-            let version = version?;
-            if self.finds_there(status, &version.meta) {
-                return Ok((count, version));
-            }
-        }
-        Err(Refusal::NoVersion)
+    fn doubts(&self, status: &[u8], meta: &Meta) -> bool {
+        let doubtful = |number| number != self.number && reserved(status, number);
+        doubtful(meta.create) | doubtful(meta.expire)
     }
 
-    /// Refusals 8 to 10, once a version is there: what the slot says to a writer.
+    /// The first version that is there, and how many were looked at. Refusal 6 where a break comes
+    /// first; then 17 where a version looked at is in doubt, "the answer included"; then 7 where no
+    /// version is there.
+    #[inline]
+    pub fn find(&self, status: &[u8], chain: Chain<'_>) -> Result<(u64, Version), Refusal> {
+        let mut found = Err(Refusal::NoVersion);
+        let mut doubt = false;
+        for (version, count) in chain.zip(1..) {
+            let version = version?;
+            doubt |= self.doubts(status, &version.meta);
+            if self.finds_there(status, &version.meta) {
+                found = Ok((count, version));
+                break;
+            }
+        }
+        if doubt { Err(Refusal::ReservedStatus) } else { found }
+    }
+
+    /// Refusals 8 to 10, once a version is there: what the slot says to a writer. The slot was
+    /// looked at, so 9 no longer comes of a reserved number.
     pub fn check_conflict(&self, status: &[u8], slot: &Meta) -> Result<(), Refusal> {
         let writer = if slot.expire != 0 { slot.expire } else { slot.create };
         if slot.expire == 0 && self.knows(status, slot.create, slot.cmd) {

@@ -6,13 +6,15 @@ use crate::page::{HEADER, TXN_ID};
 /// The highest number for which the page has room.
 pub const HIGHEST_NUMBER: u32 = 32_575;
 
-/// What a number's two bits say; 11 is reserved and never written.
+/// What a number's two bits say: "The status reader shall answer in four ways" (02, T-05).
 #[derive(Clone, Copy, PartialEq, Eq)]
 #[repr(u8)]
 pub enum State {
     InWork = 0b00,
     Committed = 0b01,
     Withdrawn = 0b10,
+    /// Never written.
+    Reserved = 0b11,
 }
 
 /// The byte that holds the bits of `number`, and how far they are shifted in it.
@@ -21,14 +23,30 @@ const fn place(number: u64) -> (usize, u32) {
     (HEADER + (number / 4) as usize, (number % 4) as u32 * 2)
 }
 
-/// "Number 0 and numbers above 32,575 are never committed."
+/// The state of a number. "Number 0 and numbers above 32,575 are never committed", nor are they
+/// reserved: whatever bits there are, they read as in work.
 #[inline]
-pub fn committed(status: &[u8], number: u64) -> bool {
+pub fn state(status: &[u8], number: u64) -> State {
     if number == 0 || number > HIGHEST_NUMBER.into() {
-        return false;
+        return State::InWork;
     }
     let (byte, shift) = place(number);
-    status[byte] >> shift & 0b11 == State::Committed as u8
+    match status[byte] >> shift & 0b11 {
+        0b00 => State::InWork,
+        0b01 => State::Committed,
+        0b10 => State::Withdrawn,
+        _ => State::Reserved,
+    }
+}
+
+#[inline]
+pub fn committed(status: &[u8], number: u64) -> bool {
+    state(status, number) == State::Committed
+}
+
+#[inline]
+pub fn reserved(status: &[u8], number: u64) -> bool {
+    state(status, number) == State::Reserved
 }
 
 /// Sets the bits of `number` and leaves its neighbours'.

@@ -2,7 +2,7 @@
 use denote.Enum.Declared.{tagOf, declared}
 use mathlib.Core.Path.{refl, sym}
 use borrow.Author.Needs.{needs}
-use Rattle.chain.proofs.Walk.{enum}
+use Rattle.doubt.proofs.Look.{enum}
 use Rattle.seeking.proofs.Seekings.{seek-outside, seek-none, seek-at}
 use Rattle.seeking.proofs.seek.Statement.{statement}
 use Rattle.seeking.proofs.seek.Tie as tie

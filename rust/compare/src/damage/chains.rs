@@ -12,16 +12,16 @@ const BROKEN: Expected =
     &[("read", &[6]), ("update", &[6]), ("delete", &[6]), ("withdraw", &[6]), ("sweep", &[6])];
 
 /// A pointer in a chain of at least one undo version.
-struct Link {
-    row: u64,
+pub(super) struct Link {
+    pub row: u64,
     /// The row's entries, newest first.
-    chain: Vec<usize>,
+    pub chain: Vec<usize>,
     /// How many entries are passed before the pointer: 0 means the slot's own.
     passed: usize,
 }
 
 impl Link {
-    fn pick(store: &Store, random: &mut Random) -> Option<Self> {
+    pub fn pick(store: &Store, random: &mut Random) -> Option<Self> {
         let chained = |row: &u64| word_at(&store.data, slot_at(*row) + UNDO_PTR) != 0;
         let row = random.pick_from((0..store.rows()).filter(chained))?;
         let chain = chain(&store.data, &store.undo, row);
@@ -29,7 +29,7 @@ impl Link {
         Some(Self { row, chain, passed })
     }
 
-    fn set(&self, store: &mut Store, pointer: u64) {
+    pub fn set(&self, store: &mut Store, pointer: u64) {
         match self.passed {
             0 => put_word(&mut store.data, slot_at(self.row) + UNDO_PTR, pointer),
             passed => {

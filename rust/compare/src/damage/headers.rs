@@ -1,6 +1,6 @@
 //! Headers and numbers, as open checks them.
 
-use super::{Damage, Expected, hot_row};
+use super::{Damage, Expected, hot_row, set_bits};
 use crate::layout::{HEADER, PAGE, put_word, word_at};
 use crate::random::Random;
 use crate::{Call, Engine, Plain, Store};
@@ -44,13 +44,6 @@ fn resealed(
         Plain.call(store, &Call::Seal);
         hot_row(random)
     })
-}
-
-/// Sets the two bits of a number.
-fn set_bits(store: &mut Store, number: u64, bits: u8) {
-    let byte = &mut store.status[HEADER + number as usize / 4];
-    let shift = number % 4 * 2;
-    *byte = *byte & !(3 << shift) | bits << shift;
 }
 
 /// Each header field, the checksum, and the numbers that open looks at.

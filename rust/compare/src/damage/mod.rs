@@ -1,5 +1,5 @@
-//! Stores damaged on purpose: each kind of break that document 01 names, each header field, each
-//! rule of a sound desk, each wrong length.
+//! Stores damaged on purpose: each kind of break that document 01 names, numbers with the reserved
+//! status, each header field, each rule of a sound desk, each wrong length.
 //!
 //! A [`Damage`] spoils a working store in one way. Both engines then get every call at copies of
 //! it. Each kind lists the answers that it must have brought about in all rounds together, so that
@@ -10,13 +10,16 @@ mod desks;
 mod headers;
 mod lengths;
 mod odd;
+mod reserved;
 
 pub use chains::broken_chains;
 pub use desks::desks;
 pub use headers::wrong_headers;
 pub use lengths::lengths;
 pub use odd::odd_bytes;
+pub use reserved::reserved_numbers;
 
+use crate::layout::HEADER;
 use crate::mix::Mix;
 use crate::pair::Pair;
 use crate::probes::probes;
@@ -121,6 +124,13 @@ pub fn sealed_store(seed: u64) -> Store {
     }
     Plain.call(&mut store, &Call::Seal);
     store
+}
+
+/// Sets the two bits of a number.
+fn set_bits(store: &mut Store, number: u64, bits: u8) {
+    let byte = &mut store.status[HEADER + number as usize / 4];
+    let shift = number % 4 * 2;
+    *byte = *byte & !(3 << shift) | bits << shift;
 }
 
 /// A row that the working stores write often.

@@ -20,6 +20,8 @@ fn some_number(store: &Store, random: &mut Random) -> u64 {
 /// Bytes that no history writes and that the rules still decide on.
 pub fn odd_bytes() -> Vec<Damage> {
     let sight: Expected = &[("read", &[0, 7]), ("update", &[0, 7, 9, 10])];
+    let status: Expected =
+        &[("read", &[0, 7, 17]), ("update", &[0, 7, 9, 10, 17]), ("delete", &[0, 7, 9, 10, 17])];
     vec![
         bad_entry("zero field not zero", &[("sweep", &[0])], |store, at, random| {
             store.undo[at + 12 + random.index(4)] = 0xFF;
@@ -75,15 +77,11 @@ pub fn odd_bytes() -> Vec<Damage> {
             }
             hot_row(random)
         }),
-        Damage::new("status bits", sight, |store, random| {
+        Damage::new("status bits", status, |store, random| {
             for _ in 0..1 + random.index(4) {
                 let byte = HEADER + random.index(store.next() as usize / 4 + 1);
                 store.status[byte] = random.number() as u8;
             }
-            hot_row(random)
-        }),
-        Damage::new("all status bits reserved", &[("read", &[7])], |store, random| {
-            store.status[HEADER..].fill(0xFF);
             hot_row(random)
         }),
         Damage::new(

@@ -1,0 +1,2 @@
+pub mod Doubts
+mod Looks
