@@ -1,5 +1,5 @@
 // A row's versions, from the slot along the undo pointers ("01, Sessions and sight"), step by step, and where a version's body lies. What the
-// walk along them finds is said in specs/; its loop is `seeking`'s.
+// walk along them finds is said in specs/; its loop is `doubt`'s.
 use pointer::Lead;
 use pointer::Pointer;
 use records::entry::Entry;
@@ -17,7 +17,8 @@ pub enum Place {
     Undo(usize),
 }
 
-// What the walk finds: a version with the number of versions looked at, that there is none, or a break before one.
+// What the walk finds, in the definitions: a version with the number of versions looked at, that there is none, or a break before one.
+// The code answers it with doubt beside it (`doubt::Look`).
 pub enum Walk {
     Found(Place, usize),
     Absent,
