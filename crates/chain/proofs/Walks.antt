@@ -110,7 +110,7 @@ module _ (p : Slot → Bool) (whole : Bool) where
       by true e = let z : _≡_ {A = ℕ} 0 1 = cc in omega arith
       by false e = let z : _≡_ {A = ℕ} 0 1 = cc in omega arith
 
-  found : (k : ℕ) (xs : List Version) (place : Place) (n : ℕ) → firstIn p k xs whole ≡ Found place n → First p xs place (n - k) × (k < n)
+  pub found : (k : ℕ) (xs : List Version) (place : Place) (n : ℕ) → firstIn p k xs whole ≡ Found place n → First p xs place (n - k) × (k < n)
   unfolding firstIn
   found k [] place n h = absurd (none (Found place n) h place n refl)
   found k (x ∷ xs) place n h = by (p (x .slot)) refl h (found (k + 1) xs place n)

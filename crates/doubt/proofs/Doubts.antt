@@ -3,7 +3,7 @@
 use mathlib.Core.Path.{_≡_, refl, sym, ap, subst, _∙_, fun-ext}
 use mathlib.Core.Bool.{Bool, true, false, not, _&&_, _||_, cond, and-false, or-false}
 use mathlib.Core.List.{List, [], _∷_}
-use Prim.Native.Nat.{ℕ, zero, suc, _+_, _<_}
+use Prim.Native.Nat.{ℕ, zero, suc, _+_}
 use native.Mathlib.Omega.{arith}
 use lib.Dec.{eqb, ltb}
 use borrow.Author.Tests.{eq-eqb, ne-eqb}
@@ -27,6 +27,7 @@ use Rattle.chain.specs.Chain.{Version, Chain, ended, onto, among, chainFrom, ch
 use Rattle.chain.specs.Walk.{stampOf, thereIn, firstIn, followRule}
 use Rattle.chain.proofs.Chains.{copyOf, chainFrom-end, chainFrom-break, chainFrom-passed, chainFrom-on, chainFrom-full}
 use Rattle.chain.proofs.Rows.{chainOf-empty, chainOf-used}
+use Rattle.chain.proofs.Walks.{found}
 use Rattle.doubt.specs.Doubt.{isReserved, reserved, NoneReserved, doubtful, inDoubt, doubtIn, lookedAt, someIn, doubts, doubtsBehind}
 
 -- ---- a number
@@ -78,20 +79,6 @@ module _ (u : List ℕ) (r : ℕ) (q : Slot → Bool) where
 
 -- ---- the walk's count
 
--- what is found lies behind what was looked at before
-firstIn-above : (p : Slot → Bool) (k : ℕ) (xs : List Version) (whole : Bool) (place : Place) (n : ℕ) → firstIn p k xs whole ≡ Found place n → k < n
-unfolding firstIn
-firstIn-above p k [] whole place n h = by whole h
-  where
-    by : (t : Bool) → cond t Absent Broken ≡ Found place n → k < n
-    by true e = let z : _≡_ {A = ℕ} 0 1 = cc in absurd (omega arith)
-    by false e = let z : _≡_ {A = ℕ} 0 1 = cc in absurd (omega arith)
-firstIn-above p k (x ∷ xs) whole place n h = by (p (x .slot)) h (firstIn-above p (k + 1) xs whole place n)
-  where
-    by : (t : Bool) → cond t (Found (x .place) (k + 1)) (firstIn p (k + 1) xs whole) ≡ Found place n → (firstIn p (k + 1) xs whole ≡ Found place n → k + 1 < n) → k < n
-    by true e ih = let c : k + 1 ≡ n = cc in omega arith
-    by false e ih = omega (arith, ih e)
-
 -- how many copies behind k versions a walk has looked at, where `most` is all that there may be; a broken one is not asked
 abbrev Copies : ℕ → ℕ → Walk → ℕ → Type 0
 Copies most k (Found place m) n = m ≡ k + n
@@ -133,7 +120,7 @@ module _ (u : List ℕ) (r : ℕ) (p q : Slot → Bool) where
       by false h zero z = absurd (none (walked (k + 1) c) refl h)
         where
           none : (w : Walk) → walked (k + 1) c ≡ w → Copies (suc most) k w n → ⊥
-          none (Found place j) is g = omega (arith, g, z, firstIn-above p (k + 1) (c .versions) (c .whole) place j is)
+          none (Found place j) is g = omega (arith, g, z, found p (c .whole) (k + 1) (c .versions) place j is .1)
           none Absent is g = omega arith
           none Broken is g = g
       by false h (suc i) z = ap (λ (b : Bool). q (m .copy) || b) (ih i (on (walked (k + 1) c) h))

@@ -1,10 +1,11 @@
 -- The promises of insert, update, delete and read: no second result meets their contracts, a refused call leaves the areas as they were
 -- and reports no numbers, and 9 comes of no reserved number. Assumes nothing.
-use mathlib.Core.Path.{_≡_, refl, sym, ap, _∙_}
+use mathlib.Core.Path.{_≡_, refl, sym, ap, subst, _∙_}
 use mathlib.Core.List.{List, []}
-use mathlib.Core.Bool.{Bool, false, not, _||_, cond}
+use mathlib.Core.Bool.{Bool, true, false, not, _||_, cond}
 use Prim.Native.Nat.{ℕ, zero, suc}
 use native.Mathlib.Omega.{arith}
+use borrow.Author.Tests.{not-false}
 use Rattle.ground.specs.Does.{Does}
 use Rattle.ground.specs.Refuse.{settle}
 use Rattle.ground.proofs.Once.{once}
@@ -14,7 +15,9 @@ use Rattle.answer.specs.Code.{codeOf}
 use Rattle.answer.proofs.Codes.{codeOf-injective}
 use Rattle.desk.specs.declared.Desk.{Desk}
 use Rattle.desk.specs.Sound.{sound}
+use Rattle.desk.specs.Turns.{viewAt}
 use Rattle.places.specs.Open.{isOpen}
+use Rattle.sessions.proofs.Changes.{isOpen-open}
 use Rattle.kind.specs.Areas.{Areas, badLength}
 use Rattle.records.specs.Slot.{slotAt}
 use Rattle.chain.specs.declared.Place.{Place}
@@ -119,12 +122,14 @@ module _ (a : Areas) (d : Desk) (x : ℕ) where
 
 -- ---- 9 comes of no reserved number ("02, T-05"): where it is answered, no number that the slot names is in doubt
 
--- behind 1, 2 and 4
-behind-four : (a : Areas) (d : Desk) (x rest : ℕ) → cond (badLength a) 1 (cond (not (sound d)) 2 (cond (not (isOpen x (d .numbers))) 4 rest)) ≡ 9 → rest ≡ 9
+-- behind 1, 2 and 4: the session is open
+behind-four : (a : Areas) (d : Desk) (x rest : ℕ) → cond (badLength a) 1 (cond (not (sound d)) 2 (cond (not (isOpen x (d .numbers))) 4 rest)) ≡ 9
+    → (sound d ≡ true) × (isOpen x (d .numbers) ≡ true) × (rest ≡ 9)
 behind-four a d x rest e =
     let l = firstOf-past 9 (badLength a) 1 (cond (not (sound d)) 2 (cond (not (isOpen x (d .numbers))) 4 rest)) (λ z. omega arith) e in
     let k = firstOf-past 9 (not (sound d)) 2 (cond (not (isOpen x (d .numbers))) 4 rest) (λ z. omega arith) (l .1) in
-    firstOf-past 9 (not (isOpen x (d .numbers))) 4 rest (λ z. omega arith) (k .1) .1
+    let o = firstOf-past 9 (not (isOpen x (d .numbers))) 4 rest (λ z. omega arith) (k .1) in
+    (not-false (sound d) (k .0), not-false (isOpen x (d .numbers)) (o .0), o .1)
 
 -- the number answered is the one that the list gives
 answered : {A : Type 0} (done : A) (refused : ℕ → A) (code : A → ℕ) → code done ≡ 0 → ((n : ℕ) → code (refused n) ≡ n) → (n : ℕ)
@@ -136,17 +141,26 @@ answered done refused code zeroes tells (suc n) h = sym (tells (suc n)) ∙ h
 module _ (a : Areas) (d : Desk) (x r : ℕ) where
   -- the slot names no number in doubt
   abbrev Clear : Type 0
-  Clear = doubtIn (viewIn d x .number) (a .status) (slotAt r (a .«data»)) ≡ false
+  Clear = doubtIn x (a .status) (slotAt r (a .«data»)) ≡ false
+
+  -- an open session sees by its own number
+  clear-for : sound d ≡ true → isOpen x (d .numbers) ≡ true → doubtIn (viewIn d x .number) (a .status) (slotAt r (a .«data»)) ≡ false → Clear
+  unfolding viewAt
+  clear-for ok opened = subst (λ (n : ℕ). doubtIn n (a .status) (slotAt r (a .«data»)) ≡ false) (isOpen-open d x ok opened .here)
 
   pub update-nine : (body : List ℕ) → updateRule a d x r body .0 ≡ 9 → Clear
   unfolding updateRule updateRefusal
   update-nine body h =
       let rest : List (Bool × ℕ) = slotSays (a .«data») (a .undo) (a .status) (viewIn d x) r (updateRoom (a .«data») (a .undo) (a .status) d x r body) in
-      nine-clear (a .«data») (a .undo) (a .status) (viewIn d x) r (noRow (a .«data») r || badBody body) rest
-      (behind-four a d x _ (answered (0, updated a d x r body) (λ (n : ℕ). (n, a)) (λ (y : ℕ × Areas). y .0) refl (λ n. refl) (updateRefusal a d x r body) h))
+      let refusal = answered (0, updated a d x r body) (λ (n : ℕ). (n, a)) (λ (y : ℕ × Areas). y .0) refl (λ n. refl) (updateRefusal a d x r body) h in
+      let asked = behind-four a d x _ refusal in
+      clear-for (asked .0) (asked .1) (nine-clear (a .«data») (a .undo) (a .status) (viewIn d x) r (noRow (a .«data») r || badBody body) rest (asked .2))
 
   pub delete-nine : deleteRule a d x r .0 ≡ 9 → Clear
   unfolding deleteRule deleteRefusal
   delete-nine h =
-      nine-clear (a .«data») (a .undo) (a .status) (viewIn d x) r (noRow (a .«data») r) (slotSays (a .«data») (a .undo) (a .status) (viewIn d x) r [])
-      (behind-four a d x _ (answered (0, deleted x (viewIn d x .statement) r (a .«data»)) (λ (n : ℕ). (n, a .«data»)) (λ (y : ℕ × List ℕ). y .0) refl (λ n. refl) (deleteRefusal a d x r) h))
+      let rest : List (Bool × ℕ) = slotSays (a .«data») (a .undo) (a .status) (viewIn d x) r [] in
+      let done : ℕ × List ℕ = (0, deleted x (viewIn d x .statement) r (a .«data»)) in
+      let refusal = answered done (λ (n : ℕ). (n, a .«data»)) (λ (y : ℕ × List ℕ). y .0) refl (λ n. refl) (deleteRefusal a d x r) h in
+      let asked = behind-four a d x _ refusal in
+      clear-for (asked .0) (asked .1) (nine-clear (a .«data») (a .undo) (a .status) (viewIn d x) r (noRow (a .«data») r) rest (asked .2))
