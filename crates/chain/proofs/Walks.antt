@@ -211,11 +211,6 @@ module _ (d u s : List ℕ) (v : View) (r : ℕ) where
     unfolding walkRule followRule firstIn
     walk-behind h = rw (chainOf-used d u r some, h)
 
-    -- where the slot was read as m
-    pub walk-on : {m : Slot} {w : Walk} → m ≡ slotAt r d → thereIn v s (slotAt r d) ≡ false → w ≡ followRule u s v r (m .«undo_ptr»)
-        → w ≡ walkRule d u s v r
-    walk-on {m} {w} read h is = is ∙ ap (λ (x : Slot). followRule u s v r (x .«undo_ptr»)) read ∙ sym (walk-behind h)
-
   -- ---- and what it means
 
   pub walk-found : (place : Place) (n : ℕ) → walkRule d u s v r ≡ Found place n → First (thereIn v s) (chainOf d u r .versions) place n

@@ -28,7 +28,7 @@ use Rattle.chain.specs.Walk.{stampOf, thereIn, firstIn, followRule}
 use Rattle.chain.proofs.Chains.{copyOf, chainFrom-end, chainFrom-break, chainFrom-passed, chainFrom-on, chainFrom-full}
 use Rattle.chain.proofs.Rows.{chainOf-empty, chainOf-used}
 use Rattle.chain.proofs.Walks.{found}
-use Rattle.doubt.specs.Doubt.{isReserved, reserved, NoneReserved, doubtful, inDoubt, doubtIn, lookedAt, someIn, doubts, doubtsBehind}
+use Rattle.doubt.specs.Doubt.{isReserved, reserved, NoneReserved, doubtful, inDoubt, doubtIn, versionsLookedAt, someIn, doubts, doubtsBehind}
 
 -- ---- a number
 
@@ -90,14 +90,14 @@ module _ (u : List ℕ) (r : ℕ) (p q : Slot → Bool) where
   walked k c = firstIn p k (c .versions) (c .whole)
 
   abbrev looked : Chain → Bool
-  looked c = someIn q (lookedAt p (c .versions))
+  looked c = someIn q (versionsLookedAt p (c .versions))
 
   -- what is to be shown of a chain that goes on from link l
   abbrev Agrees : ℕ → ℕ → ℕ → Link → Chain → Type 0
   Agrees most k n l c = Copies most k (walked k c) n → someOn u r q n l ≡ looked c
 
   at-end : (most k n : ℕ) → Agrees most k n End (ended true)
-  unfolding someIn lookedAt firstIn someOn
+  unfolding someIn versionsLookedAt firstIn someOn
   at-end most k zero h = refl
   at-end most k (suc n) h = refl
 
@@ -108,12 +108,12 @@ module _ (u : List ℕ) (r : ℕ) (p q : Slot → Bool) where
   at-copy : (most k n e : ℕ) (m : Entry) (c : Chain)
       → ((n : ℕ) → Agrees most (k + 1) n (linkOf u r (m .copy .«undo_ptr»)) c)
       → Agrees (suc most) k n (To e m) (onto (copyOf e m) c)
-  unfolding someIn lookedAt firstIn someOn
+  unfolding someIn versionsLookedAt firstIn someOn
   at-copy most k n e m c ih h = by (p (m .copy)) h n refl
     where
       by : (t : Bool) → Copies (suc most) k (cond t (Found (copyOf e m .place) (k + 1)) (walked (k + 1) c)) n
           → (i : ℕ) → n ≡ i
-          → someOn u r q i (To e m) ≡ q (m .copy) || someIn q (cond t [] (lookedAt p (c .versions)))
+          → someOn u r q i (To e m) ≡ q (m .copy) || someIn q (cond t [] (versionsLookedAt p (c .versions)))
       by true h zero z = absurd (omega arith)
       by true h (suc zero) z = refl
       by true h (suc (suc i)) z = absurd (omega arith)
@@ -157,37 +157,37 @@ module _ (u : List ℕ) (r : ℕ) (p q : Slot → Bool) where
 module _ (d u s : List ℕ) (v : View) (r : ℕ) where
   -- the versions looked at of a chain
   abbrev lookedOf : Chain → Bool
-  lookedOf c = someIn (doubtIn (v .number) s) (lookedAt (thereIn v s) (c .versions))
+  lookedOf c = someIn (doubtIn (v .number) s) (versionsLookedAt (thereIn v s) (c .versions))
 
   abbrev slot : Slot
   slot = slotAt r d
 
   -- an empty slot is no version
   pub doubts-empty : slot .create ≡ 0 → doubts d u s v r ≡ false
-  unfolding doubts lookedAt someIn
+  unfolding doubts versionsLookedAt someIn
   doubts-empty z = ap lookedOf (chainOf-empty d u r z)
 
   module _ (some : slot .create ≡ 0 → ⊥) where
     -- the slot is the answer
     pub doubts-at : thereIn v s slot ≡ true → doubts d u s v r ≡ doubtIn (v .number) s slot
-    unfolding doubts lookedAt someIn
+    unfolding doubts versionsLookedAt someIn
     doubts-at h = ap lookedOf (chainOf-used d u r some) ∙ rw h (or-false (doubtIn (v .number) s slot))
 
     -- the walk goes on behind it
     pub doubts-behind : thereIn v s slot ≡ false → doubts d u s v r ≡ doubtIn (v .number) s slot || doubtsBehind u s v r (slot .«undo_ptr»)
-    unfolding doubts doubtsBehind lookedAt someIn
+    unfolding doubts doubtsBehind versionsLookedAt someIn
     doubts-behind h = ap lookedOf (chainOf-used d u r some) ∙ rw h
 
   -- the slot of a row is looked at first
   pub doubts-slot : (slot .create ≡ 0 → ⊥) → doubts d u s v r ≡ false → doubtIn (v .number) s slot ≡ false
-  unfolding doubts lookedAt someIn
+  unfolding doubts versionsLookedAt someIn
   doubts-slot some h = or-false-left (doubtIn (v .number) s slot) _ (sym (ap lookedOf (chainOf-used d u r some)) ∙ h)
 
   -- a status page without a reserved number leaves no doubt
   pub doubts-none : NoneReserved s → doubts d u s v r ≡ false
   unfolding doubts inDoubt
   doubts-none h =
-      some-none (doubtIn (v .number) s) (lookedAt (thereIn v s) (chainOf d u r .versions))
+      some-none (doubtIn (v .number) s) (versionsLookedAt (thereIn v s) (chainOf d u r .versions))
       (λ m. rw (doubtful-none (v .number) s (m .create) (h (m .create)), doubtful-none (v .number) s (m .expire) (h (m .expire))))
 
 -- behind the slot, as the walk from a pointer on tells its count: n copies to the version found, all where there is none
@@ -237,5 +237,5 @@ pub front-doubts : (m l : List ℕ)
     → doubts d u s (viewOf number statement m) r ≡ doubts d u s (viewOf number statement l) r
 unfolding doubts
 front-doubts m l front number statement d u s r =
-    ap (λ (p : Slot → Bool). someIn (doubtIn number s) (lookedAt p (chainOf d u r .versions)))
+    ap (λ (p : Slot → Bool). someIn (doubtIn number s) (versionsLookedAt p (chainOf d u r .versions)))
     (fun-ext (λ x. front-there m l front number statement s (stampOf x)))

@@ -1,8 +1,8 @@
 -- Whether doubt was met on the way: what the loop has noted after some copies, with what the copies behind say, is what all of them say
 -- from the first pointer on; and so what the walk and the loop's note come to is what the rule says ("02, T-05"). Assumes nothing.
-use mathlib.Core.Path.{_≡_, refl, sym, ap, ap₂, _∙_}
+use mathlib.Core.Path.{_≡_, sym, ap, ap₂, _∙_}
 use mathlib.Core.Logic.{_⊎_, ⊎-elim}
-use mathlib.Core.Bool.{Bool, true, false, _||_, or-false}
+use mathlib.Core.Bool.{Bool, true, false, _||_, or-false, or-assoc}
 use mathlib.Core.List.{List}
 use Prim.Native.Nat.{ℕ, suc, _+_, _-_, _≤_}
 use native.Mathlib.Omega.{arith}
@@ -25,10 +25,6 @@ use Rattle.doubt.specs.Doubt.{doubtful, doubtIn, doubtsBehind, lookBy, l
 use Rattle.doubt.proofs.Doubts.{someOn, someOn-end, someOn-out, someOn-on, behind-found, behind-absent, there-doubt, doubts-empty, doubts-at, doubts-behind}
 use Rattle.doubt.specs.declared.Look.{Look}
 use Rattle.doubt.specs.declared.Look.the-variants.{Absent as NoneLeft, Broken}
-
-or-assoc : (a b c : Bool) → (a || b) || c ≡ a || (b || c)
-or-assoc true b c = refl
-or-assoc false b c = refl
 
 module _ (u : List ℕ) (r : ℕ) (q : Slot → Bool) (first : Link) (met : Bool) where
   -- n copies from the first link on were looked at, and `noted` is what was met so far, in the slot or in them; m more are to come

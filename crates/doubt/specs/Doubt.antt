@@ -46,9 +46,9 @@ abbrev pub doubtIn : ℕ → List ℕ → Slot → Bool
 doubtIn session s m = inDoubt session s (stampOf m)
 
 -- the versions looked at, "the answer included": up to the first that passes, and all where none does
-unfoldable pub lookedAt : (Slot → Bool) → List Version → List Version
-lookedAt p [] = []
-lookedAt p (x ∷ xs) = x ∷ cond (p (x .slot)) [] (lookedAt p xs)
+unfoldable pub versionsLookedAt : (Slot → Bool) → List Version → List Version
+versionsLookedAt p [] = []
+versionsLookedAt p (x ∷ xs) = x ∷ cond (p (x .slot)) [] (versionsLookedAt p xs)
 
 -- some of the versions passes
 unfoldable pub someIn : (Slot → Bool) → List Version → Bool
@@ -57,11 +57,11 @@ someIn q (x ∷ xs) = q (x .slot) || someIn q xs
 
 -- 17: "any such version looked at, the answer included"
 unfoldable pub doubts : List ℕ → List ℕ → List ℕ → View → ℕ → Bool
-doubts d u s v r = someIn (doubtIn (v .number) s) (lookedAt (thereIn v s) (chainOf d u r .versions))
+doubts d u s v r = someIn (doubtIn (v .number) s) (versionsLookedAt (thereIn v s) (chainOf d u r .versions))
 
 -- the rest of it, from a pointer on, where the slot was looked at
 unfoldable pub doubtsBehind : List ℕ → List ℕ → View → ℕ → ℕ → Bool
-doubtsBehind u s v r ptr = someIn (doubtIn (v .number) s) (lookedAt (thereIn v s) (chainFrom u r (entries u) [] ptr .versions))
+doubtsBehind u s v r ptr = someIn (doubtIn (v .number) s) (versionsLookedAt (thereIn v s) (chainFrom u r (entries u) [] ptr .versions))
 
 -- what comes of a walk, where t tells whether a version looked at was in doubt: "a break met before a version is found answers 6, and
 -- otherwise any such version looked at, the answer included, gives 17"

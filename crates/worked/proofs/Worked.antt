@@ -36,7 +36,7 @@ use Rattle.touching.specs.Touching.{withEntry, withMeta, withSlot}
 use Rattle.writing.specs.Writing.{deleted, inserted, updatedData, updatedUndo}
 use Rattle.freeing.specs.Freeing.{cutCopy, cutSlot, sweptEntry, sweptSlot}
 use Rattle.vacant.specs.Vacant.{lowestEmpty, lowestFree}
-use Rattle.doubt.specs.Doubt.{doubtful, doubts, inDoubt, lookedAt, reserved, someIn}
+use Rattle.doubt.specs.Doubt.{doubtful, doubts, inDoubt, versionsLookedAt, reserved, someIn}
 use Rattle.seeking.specs.Seeking.{breaks, misses, noRow, says}
 use Rattle.keep.specs.Keep.{formatRefusal, formatRule, formatted}
 use Rattle.keep.specs.Whole.{freshArea}
@@ -119,7 +119,7 @@ swept-1 = carried (lentTo (freshDesk 4)) (areas (dataOf 0) undoFree (statusOf 0b
 
 -- every definition that they are computed with; of a checksum only that it is the same
 unfoldable rules : ℕ
-unfolding bytes run inputOf outputOf start lentTo headed dataOf undoOf undoFree statusOf updated-2 committed-2 committed-3 swept-1 allBelow countBelow firstFrom bytesOf digits little part lengthOk lengthsOk recordAt bitsIn putBitsIn putStatus statusAt atEntry leadOf leads pointerTo wellFormed clearEntry copyBodyAt entryAt entryOf putCopy putEntry bodyAt clearSlot putMeta putSlot slotAt slotOf counted inUse itemsIn touched pageAt putField blankPage freshPage markOf smallest without isOpen openCount placeIn ascending follows placed sessionSound freshDesk sound soundColumns begun closed mark viewAt conflictOf isDead ofAnother committed earlier known listed sees standing there among chainFrom chainOf unfit bodyOf firstIn walkRule reserved doubtful inDoubt lookedAt someIn doubts withEntry withMeta withSlot deleted inserted updatedData updatedUndo cutCopy cutSlot sweptEntry sweptSlot lowestEmpty lowestFree breaks misses noRow says formatRefusal formatRule formatted freshArea beginRefusal beginRule commitRefusal commitRule sweptAll sweptBehind sweptRow sweptVersions treated deleteRefusal deleteRule insertRefusal insertRule readRefusal readRule updateRefusal updateRule updated parts bodyIn digitsAlone glyphOf hexAlone hexOf isBody nibbleOf numberIn numeralOf pairs saidFrom spelled commandOf longest-line sameAs verbIn verbOf wordOf answerLine longest-answer tabbed playRule answers dataLent freshFooting lent lined named restOf rested runLines runRule stepped leftIn undoLent
+unfolding bytes run inputOf outputOf start lentTo headed dataOf undoOf undoFree statusOf updated-2 committed-2 committed-3 swept-1 allBelow countBelow firstFrom bytesOf digits little part lengthOk lengthsOk recordAt bitsIn putBitsIn putStatus statusAt atEntry leadOf leads pointerTo wellFormed clearEntry copyBodyAt entryAt entryOf putCopy putEntry bodyAt clearSlot putMeta putSlot slotAt slotOf counted inUse itemsIn touched pageAt putField blankPage freshPage markOf smallest without isOpen openCount placeIn ascending follows placed sessionSound freshDesk sound soundColumns begun closed mark viewAt conflictOf isDead ofAnother committed earlier known listed sees standing there among chainFrom chainOf unfit bodyOf firstIn walkRule reserved doubtful inDoubt versionsLookedAt someIn doubts withEntry withMeta withSlot deleted inserted updatedData updatedUndo cutCopy cutSlot sweptEntry sweptSlot lowestEmpty lowestFree breaks misses noRow says formatRefusal formatRule formatted freshArea beginRefusal beginRule commitRefusal commitRule sweptAll sweptBehind sweptRow sweptVersions treated deleteRefusal deleteRule insertRefusal insertRule readRefusal readRule updateRefusal updateRule updated parts bodyIn digitsAlone glyphOf hexAlone hexOf isBody nibbleOf numberIn numeralOf pairs saidFrom spelled commandOf longest-line sameAs verbIn verbOf wordOf answerLine longest-answer tabbed playRule answers dataLent freshFooting lent lined named restOf rested runLines runRule stepped leftIn undoLent
 rules = 0
 
 -- what is left of the run behind line 7, 12, 13, 14, 15
