@@ -75,6 +75,10 @@ module _ (u s : List ℕ) (v : View) (r ptr : ℕ) (met : Bool) where
   abbrev Told : Look → Type 0
   Told a = a ≡ lookBy (met || doubtsBehind u s v r ptr) (followRule u s v r ptr)
 
+  -- at a break, and where the count has run out: it is told whatever was noted
+  pub told-out : Break ≡ followRule u s v r ptr → Told Broken
+  told-out walk = ap (lookBy (met || doubtsBehind u s v r ptr)) walk
+
   module _ (n : ℕ) (some : 1 ≤ n) (l : Link) (noted : Bool) (so : Noted u r test (linkOf u r ptr) met (n - 1) l noted) where
     -- at a copy that is there
     pub told-found : {a : Look} {t : Bool} (place : Place) (e : ℕ) (m : Entry) → l ≡ To e m
@@ -108,13 +112,9 @@ module _ (u s : List ℕ) (v : View) (r ptr : ℕ) (met : Bool) where
             ∙ ap (λ (i : ℕ). met || someOn u r test i (linkOf u r ptr)) all
             ∙ ap (λ (b : Bool). met || b) (behind-absent u s v r ptr (sym walk)))
             walk
-        by Breaks e h walk is = is ∙ ap (lookBy (met || doubtsBehind u s v r ptr)) walk
+        by Breaks e h walk is = is ∙ told-out walk
         by (To i m) e h walk is =
             absurd (⊎-elim (λ (k : tag (To i m) ≡ 0). omega (arith, two i m)) (λ (k : tag (To i m) ≡ 1). omega (arith, two i m)) h)
-
-  -- where the count has run out
-  pub told-out : Break ≡ followRule u s v r ptr → Told Broken
-  told-out walk = ap (lookBy (met || doubtsBehind u s v r ptr)) walk
 
 -- ---- at the slot, read as m
 

@@ -38,6 +38,11 @@ module _ {A : Type 0} (done : A) (refused : ℕ → A) where
   settled zero P f g = f refl
   settled (suc m) P f g = g m
 
+  -- the number that is answered is the one that the list gives
+  pub settle-number : (code : A → ℕ) → code done ≡ 0 → ((n : ℕ) → code (refused n) ≡ n) → (n : ℕ) → code (settle n done refused) ≡ n
+  settle-number code zeroes tells zero = zeroes
+  settle-number code zeroes tells (suc n) = tells (suc n)
+
 module _ {A : Type 0} (n : ℕ) (new old : A) where
   pub kept-new : n ≡ 0 → new ≡ kept n new old
   kept-new done = rw done refl

@@ -3,13 +3,12 @@
 use mathlib.Core.Path.{_≡_, refl, sym, ap, subst, _∙_}
 use mathlib.Core.List.{List, []}
 use mathlib.Core.Bool.{Bool, true, false, not, _||_, cond}
-use Prim.Native.Nat.{ℕ, zero, suc}
+use Prim.Native.Nat.{ℕ}
 use native.Mathlib.Omega.{arith}
 use borrow.Author.Tests.{not-false}
 use Rattle.ground.specs.Does.{Does}
-use Rattle.ground.specs.Refuse.{settle}
 use Rattle.ground.proofs.Once.{once}
-use Rattle.ground.proofs.Refusals.{firstOf-past, settled}
+use Rattle.ground.proofs.Refusals.{firstOf-past, settled, settle-number}
 use Rattle.answer.specs.declared.Answer.{Answer}
 use Rattle.answer.specs.Code.{codeOf}
 use Rattle.answer.proofs.Codes.{codeOf-injective}
@@ -131,13 +130,6 @@ behind-four a d x rest e =
     let o = firstOf-past 9 (not (isOpen x (d .numbers))) 4 rest (λ z. omega arith) (k .1) in
     (not-false (sound d) (k .0), not-false (isOpen x (d .numbers)) (o .0), o .1)
 
--- the number answered is the one that the list gives
-answered : {A : Type 0} (done : A) (refused : ℕ → A) (code : A → ℕ) → code done ≡ 0 → ((n : ℕ) → code (refused n) ≡ n) → (n : ℕ)
-    → code (settle n done refused) ≡ 9
-    → n ≡ 9
-answered done refused code zeroes tells zero h = absurd (omega (arith, zeroes, h))
-answered done refused code zeroes tells (suc n) h = sym (tells (suc n)) ∙ h
-
 module _ (a : Areas) (d : Desk) (x r : ℕ) where
   -- the slot names no number in doubt
   abbrev Clear : Type 0
@@ -152,8 +144,8 @@ module _ (a : Areas) (d : Desk) (x r : ℕ) where
   unfolding updateRule updateRefusal
   update-nine body h =
       let rest : List (Bool × ℕ) = slotSays (a .«data») (a .undo) (a .status) (viewIn d x) r (updateRoom (a .«data») (a .undo) (a .status) d x r body) in
-      let refusal = answered (0, updated a d x r body) (λ (n : ℕ). (n, a)) (λ (y : ℕ × Areas). y .0) refl (λ n. refl) (updateRefusal a d x r body) h in
-      let asked = behind-four a d x _ refusal in
+      let told = settle-number (0, updated a d x r body) (λ (n : ℕ). (n, a)) (λ (y : ℕ × Areas). y .0) refl (λ n. refl) (updateRefusal a d x r body) in
+      let asked = behind-four a d x _ (sym told ∙ h) in
       clear-for (asked .0) (asked .1) (nine-clear (a .«data») (a .undo) (a .status) (viewIn d x) r (noRow (a .«data») r || badBody body) rest (asked .2))
 
   pub delete-nine : deleteRule a d x r .0 ≡ 9 → Clear
@@ -161,6 +153,6 @@ module _ (a : Areas) (d : Desk) (x r : ℕ) where
   delete-nine h =
       let rest : List (Bool × ℕ) = slotSays (a .«data») (a .undo) (a .status) (viewIn d x) r [] in
       let done : ℕ × List ℕ = (0, deleted x (viewIn d x .statement) r (a .«data»)) in
-      let refusal = answered done (λ (n : ℕ). (n, a .«data»)) (λ (y : ℕ × List ℕ). y .0) refl (λ n. refl) (deleteRefusal a d x r) h in
-      let asked = behind-four a d x _ refusal in
+      let told = settle-number done (λ (n : ℕ). (n, a .«data»)) (λ (y : ℕ × List ℕ). y .0) refl (λ n. refl) (deleteRefusal a d x r) in
+      let asked = behind-four a d x _ (sym told ∙ h) in
       clear-for (asked .0) (asked .1) (nine-clear (a .«data») (a .undo) (a .status) (viewIn d x) r (noRow (a .«data») r) rest (asked .2))

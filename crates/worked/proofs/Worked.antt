@@ -36,7 +36,7 @@ use Rattle.touching.specs.Touching.{withEntry, withMeta, withSlot}
 use Rattle.writing.specs.Writing.{deleted, inserted, updatedData, updatedUndo}
 use Rattle.freeing.specs.Freeing.{cutCopy, cutSlot, sweptEntry, sweptSlot}
 use Rattle.vacant.specs.Vacant.{lowestEmpty, lowestFree}
-use Rattle.doubt.specs.Doubt.{doubtful, doubts, inDoubt, versionsLookedAt, reserved, someIn}
+use Rattle.doubt.specs.Doubt.{doubtful, doubts, inDoubt, reserved, someIn, versionsLookedAt}
 use Rattle.seeking.specs.Seeking.{breaks, misses, noRow, says}
 use Rattle.keep.specs.Keep.{formatRefusal, formatRule, formatted}
 use Rattle.keep.specs.Whole.{freshArea}
