@@ -1,6 +1,7 @@
 /*
  * A small station: it formats a store, enters two measurements, corrects one while an inspector is
- * still reading, is refused a second correction, sweeps, seals, and prints what it gets.
+ * still reading, refuses the inspector's own correction and then the commit, withdraws that session,
+ * sweeps, seals, and prints what it gets.
  *
  *   cc -Wall -Wextra -Iinclude examples/station.c target/staticlib/libstation.a -o station
  */
@@ -45,6 +46,18 @@ static void commit(uint64_t session)
     printf("commit: session %" PRIu64 "\n", session);
 }
 
+/* A session that lost a conflict is refused its commit, and the station withdraws it. */
+static void commit_or_withdraw(uint64_t session)
+{
+    uint32_t answer = chirimok_commit(AREAS, &desk, session);
+    printf("commit: session %" PRIu64 ": %s (%" PRIu32 ")\n",
+           session, chirimok_refusal(answer), answer);
+    if (answer == CHIRIMOK_SESSION_SPOILED) {
+        must("withdraw", chirimok_withdraw(AREAS, &desk, session));
+        printf("withdraw: session %" PRIu64 "\n", session);
+    }
+}
+
 /* A body is 32 bytes; the station keeps a short text in it, filled up with zeros. */
 static void make_body(uint8_t body[CHIRIMOK_BODY], const char *text)
 {
@@ -62,7 +75,7 @@ static uint64_t enter(uint64_t session, const char *text)
     return out[0];
 }
 
-/* A correction may be refused: another may have been quicker. */
+/* A correction may be refused: another may have been quicker. After 10 the session is spoiled. */
 static uint32_t correct(uint64_t session, uint64_t row, const char *text)
 {
     uint8_t body[CHIRIMOK_BODY];
@@ -110,8 +123,9 @@ int main(void)
     if (correct(inspector, bolt, "bolt 8.03 mm") == CHIRIMOK_WRITER_COMMITTED) {
         puts("the inspector only reads on");
     }
+    show(inspector, bolt);
     sweep(); /* The inspector may still read the old measurement: nothing goes. */
-    commit(inspector);
+    commit_or_withdraw(inspector);
     sweep();
 
     inspector = begin();

@@ -13,7 +13,8 @@
  * aligned for uint32_t (4 bytes), the out arrays for uint64_t (8 bytes). No two of the lent parts
  * may overlap. No pointer may be NULL, even where its length is 0. A call never writes where a
  * parameter points to const. It writes the out array always, and the areas and the desk only if it
- * is accepted. How many pages a store has is not kept in it: lend as many as were formatted.
+ * is accepted, with one exception: an update or delete that answers 10 sets its session's mark in
+ * the desk. How many pages a store has is not kept in it: lend as many as were formatted.
  *
  * Threads: calls on different stores may run at the same time. Calls on one store may not, unless
  * all of them are reads, each with an out array of its own.
@@ -21,29 +22,30 @@
  * The usual course: format once, or open what was sealed; then begin, any number of reads and
  * writes with next between statements, commit or withdraw; now and then a sweep; at the end, when
  * no session is open, seal. Store the three areas then; the desk need not be stored, open makes a
- * new one.
+ * new one. A session that was answered 10 is spoiled: it can read, and has to be withdrawn.
  *
- * Warning: a store has one desk, the one that the last accepted call left. Keep no copies of it.
- * Who lends an older copy works with sessions and numbers that are past: a closed session is open
- * again, or begin hands a number out a second time, and withdrawing it takes back what was
- * committed under it. Rows can be lost while every call answers CHIRIMOK_DONE: as long as it is
- * sound, the store cannot tell an older desk, or another store's, from the last one.
+ * Warning: a store has one desk, the one that the last call left. Keep no copies of it. Who lends
+ * an older copy works with sessions and numbers that are past: a spoiled session can commit, a
+ * closed one is open again, or begin hands a number out a second time, and withdrawing it takes
+ * back what was committed under it. Rows can be lost while every call answers CHIRIMOK_DONE: as
+ * long as it is sound, the store cannot tell an older desk, or another store's, from the last one.
  * CHIRIMOK_UNSOUND_DESK is answered only where a desk breaks one of its rules. One sign can be
  * looked for, which not every wrong desk shows: desk.next should be one more than the highest
  * number handed out, which stands in bytes 8 to 15 of the status page, little-endian. Work that is
  * put away unsealed is put away with its desk.
  *
  * Answers: each call answers CHIRIMOK_DONE or the number of its refusal. Where several refusals
- * apply, the lowest is given, but that 17 stands between 6 and 7. A refused call leaves areas and
- * desk as they were and fills its out array with zeros. Every call can answer 1; every call but
- * format and open can answer 2. The other numbers are listed at each call, in their order. What
- * each says, and what a station does about it:
+ * apply, the lowest is given, but that 17 stands between 6 and 7, and 18 directly after 4. A
+ * refused call leaves areas and desk as they were and fills its out array with zeros; alone 10, of
+ * update and delete, sets the session's mark in the desk, and nothing else. Every call can answer
+ * 1; every call but format and open can answer 2. The other numbers are listed at each call, in
+ * their order. What each says, and what a station does about it:
  *
  *    1  An area's length isn't allowed. Lend whole pages: 1 to CHIRIMOK_PAGES of data, 1 to
  *       CHIRIMOK_PAGES of undo, exactly 1 of status.
  *    2  The desk is unsound: it was never filled in, or was written over. Lend the one that the
- *       last accepted call left, and no copy from before; where it is lost, open the areas as they
- *       were sealed last.
+ *       last call left, and no copy from before; where it is lost, open the areas as they were
+ *       sealed last.
  *    3  A header field is wrong, or a number isn't closed: the areas hold no store, are damaged,
  *       were not sealed after the last write, or were sealed before version 1.1 (CHIRIMOK_VERSION
  *       says what to do then). Open another copy that was sealed; format begins an empty store.
@@ -61,8 +63,9 @@
  *       first; a row that it deleted is then gone (7).
  *    9  Another writer of the row is not committed. Try again when that session is closed: after
  *       its withdrawal the row can be written, after its commit the answer is 10.
- *   10  A writer of the row whom the session does not see is committed. This session cannot write
- *       the row any more: withdraw it and begin another, or go on with other rows.
+ *   10  A writer of the row whom the session does not see is committed. The session lost the
+ *       conflict and is spoiled from now on: it can still read what it read, and has to be
+ *       withdrawn (18). Begin another, which sees that writer.
  *   11  No empty slot (insert), or no free entry (update). Sweep all rows and try again; if nothing
  *       went, end the oldest session and sweep again. With no session open, a sweep frees every
  *       entry; slots are then held by rows alone: delete some and sweep, or move to a larger store.
@@ -77,6 +80,9 @@
  *       that number was committed cannot be told. A store that the calls alone wrote since its
  *       format, each with the last desk, never answers it. Go back to a copy that was sealed; rows
  *       whose versions name no such number can still be read.
+ *   18  The session is spoiled: an update or delete of it was answered 10 before, so that what it
+ *       would commit rests on rows that another has changed since. It can still read. Withdraw it
+ *       and begin another.
  *
  * There is no 16: it is what the script's program answers to a line that is ill formed.
  */
@@ -98,14 +104,21 @@ extern "C" {
  *
  *   1.1  A page's checksum runs over all its bytes, with its own four taken as zero, as the vendor's
  *        tool has it. Areas sealed before are answered 3 by chirimok_open, and are never taken up
- *        by mistake. Open them with the release that sealed them, and lend areas and desk to
- *        chirimok_seal of this one: then chirimok_open accepts them.
+ *        by mistake. Open them with the release that sealed them, and lend them to chirimok_seal of
+ *        this one, with a desk that has the next of that release's desk and is else all zeros: then
+ *        chirimok_open accepts them.
  *   1.2  chirimok_update, chirimok_delete and chirimok_read answer 17 where a number that they meet
  *        has the reserved status. Before, such a number passed for one that is not committed. A
  *        program that takes every answer but CHIRIMOK_DONE for a refusal need not be changed.
+ *   2.0  A session that was answered 10 is spoiled: insert, update, delete, next and commit answer
+ *        it 18, and it has to be withdrawn. Before, it could go on with other rows and commit. The
+ *        desk has 289 words, 16 marks more than the 273 of before, and chirimok_update and
+ *        chirimok_delete write it: a program has to be compiled anew. The areas are as they were.
+ *        Who has put work away with a desk of 273 words closes its sessions with the release that
+ *        made it, and seals.
  */
-#define CHIRIMOK_VERSION_MAJOR 1
-#define CHIRIMOK_VERSION_MINOR 2
+#define CHIRIMOK_VERSION_MAJOR 2
+#define CHIRIMOK_VERSION_MINOR 0
 #define CHIRIMOK_VERSION (CHIRIMOK_VERSION_MAJOR * 1000 + CHIRIMOK_VERSION_MINOR)
 
 /* Sizes and limits. */
@@ -140,7 +153,8 @@ enum {
     CHIRIMOK_NUMBERS_USED_UP = 13,
     CHIRIMOK_STATEMENTS_USED_UP = 14,
     CHIRIMOK_SESSION_OPEN = 15,
-    CHIRIMOK_RESERVED_STATUS = 17
+    CHIRIMOK_RESERVED_STATUS = 17,
+    CHIRIMOK_SESSION_SPOILED = 18
 };
 
 /* What an answer says, as a text that stays. */
@@ -181,23 +195,28 @@ static inline const char *chirimok_refusal(uint32_t code)
         return "a session is open";
     case CHIRIMOK_RESERVED_STATUS:
         return "a number that the row names has the reserved status";
+    case CHIRIMOK_SESSION_SPOILED:
+        return "the session lost a conflict and is spoiled";
     default:
         return "no answer of this store";
     }
 }
 
 /*
- * The desk: 273 words of 32 bits. format and open fill one in; the caller keeps it and lends it to
- * each call. seal, insert, update, delete, read and sweep only look at it; begin, next, commit and
- * withdraw change it. Reading it is fine; writing it is not, nor is lending an older copy.
+ * The desk: 289 words of 32 bits. format and open fill one in; the caller keeps it and lends it to
+ * each call. seal, insert, read and sweep only look at it; begin, next, commit and withdraw change
+ * it. update and delete change one word of it, the session's mark, and that only where they answer
+ * 10. Reading it is fine; writing it is not, nor is lending an older copy.
  */
 struct chirimok_desk {
     /* the number that the next session gets, 1 to CHIRIMOK_LAST_NUMBER + 1 */
     uint32_t next;
     /* the open sessions' numbers, ascending; unused places are 0 */
     uint32_t numbers[CHIRIMOK_SESSIONS];
-    /* the statement of each, 0 to CHIRIMOK_LAST_STATEMENT */
+    /* the statement of each, 0 to CHIRIMOK_LAST_STATEMENT; unused places are 0 */
     uint32_t statements[CHIRIMOK_SESSIONS];
+    /* 1 where the session is spoiled, else 0; unused places are 0 */
+    uint32_t marks[CHIRIMOK_SESSIONS];
     /* the numbers open when each began, ascending; unused places are 0 */
     uint32_t lists[CHIRIMOK_SESSIONS][CHIRIMOK_SESSIONS - 1];
 };
@@ -242,7 +261,7 @@ uint32_t chirimok_begin(const uint8_t *data, size_t data_length,
 
 /*
  * Moves a session on to its next statement. A session sees its own writes of earlier statements
- * only. Refusals: 1, 2, 4, 14.
+ * only. Refusals: 1, 2, 4, 18, 14.
  */
 uint32_t chirimok_next(const uint8_t *data, size_t data_length,
                        const uint8_t *undo, size_t undo_length,
@@ -252,7 +271,7 @@ uint32_t chirimok_next(const uint8_t *data, size_t data_length,
 
 /*
  * Copies a body of 32 bytes into the lowest empty slot and writes its row number to out[0].
- * Refusals: 1, 2, 4, 5 (body_length isn't 32), 11.
+ * Refusals: 1, 2, 4, 18, 5 (body_length isn't 32), 11.
  */
 uint32_t chirimok_insert(uint8_t *data, size_t data_length,
                          const uint8_t *undo, size_t undo_length,
@@ -264,24 +283,25 @@ uint32_t chirimok_insert(uint8_t *data, size_t data_length,
 
 /*
  * Replaces the body of a row; the old version moves to the undo area for those who still read it.
- * After 10 the session may go on with other rows or withdraw. Refusals: 1, 2, 4 to 6, 17, 7 to 11.
+ * The desk is written only where the answer is 10: then the session's mark is set, and it can only
+ * read and be withdrawn. Refusals: 1, 2, 4, 18, 5, 6, 17, 7 to 11.
  */
 uint32_t chirimok_update(uint8_t *data, size_t data_length,
                          uint8_t *undo, size_t undo_length,
                          const uint8_t *status, size_t status_length,
-                         const struct chirimok_desk *desk,
+                         struct chirimok_desk *desk,
                          uint64_t session, uint64_t row,
                          const uint8_t *body, size_t body_length);
 
 /*
  * Deletes a row for the session's later statements and, once it commits, for all who begin after.
- * The slot is empty again when a sweep has removed the version. Refusals: 1, 2, 4 to 6, 17, 7 to
- * 10.
+ * The slot is empty again when a sweep has removed the version. The desk is written only where the
+ * answer is 10, as by chirimok_update. Refusals: 1, 2, 4, 18, 5, 6, 17, 7 to 10.
  */
 uint32_t chirimok_delete(uint8_t *data, size_t data_length,
                          const uint8_t *undo, size_t undo_length,
                          const uint8_t *status, size_t status_length,
-                         const struct chirimok_desk *desk,
+                         struct chirimok_desk *desk,
                          uint64_t session, uint64_t row);
 
 /*
@@ -291,7 +311,8 @@ uint32_t chirimok_delete(uint8_t *data, size_t data_length,
  *   out[1]  where the body lies: CHIRIMOK_IN_DATA or CHIRIMOK_IN_UNDO (0 after a refusal)
  *   out[2]  the byte offset of its 32 bytes in that area
  *
- * The bytes stay there until the next call that writes the area. Refusals: 1, 2, 4 to 6, 17, 7.
+ * The bytes stay there until the next call that writes the area. A spoiled session reads like any
+ * other. Refusals: 1, 2, 4 to 6, 17, 7.
  */
 uint32_t chirimok_read(const uint8_t *data, size_t data_length,
                        const uint8_t *undo, size_t undo_length,
@@ -301,7 +322,7 @@ uint32_t chirimok_read(const uint8_t *data, size_t data_length,
                        uint64_t out[3]);
 
 /*
- * Closes a session; those who begin later see what it wrote. Refusals: 1, 2, 4.
+ * Closes a session; those who begin later see what it wrote. Refusals: 1, 2, 4, 18.
  */
 uint32_t chirimok_commit(const uint8_t *data, size_t data_length,
                          const uint8_t *undo, size_t undo_length,
@@ -310,7 +331,7 @@ uint32_t chirimok_commit(const uint8_t *data, size_t data_length,
                          uint64_t session);
 
 /*
- * Takes back everything that a session wrote, and closes it. Refusals: 1, 2, 4, 6.
+ * Takes back everything that a session wrote, and closes it, spoiled or not. Refusals: 1, 2, 4, 6.
  */
 uint32_t chirimok_withdraw(uint8_t *data, size_t data_length,
                            uint8_t *undo, size_t undo_length,

@@ -1,5 +1,5 @@
 #!/bin/sh
-# Tries the fourteen breaks of BREAKS.md. Each is applied to a copy of this workspace, and the named test
+# Tries the nineteen breaks of BREAKS.md. Each is applied to a copy of this workspace, and the named test
 # must compile and then fail where the two engines differ; on the untouched copy every named test must
 # pass. Needs the archive that CHIRIMOK_STATION names, by default ../target/staticlib/libstation.a.
 set -eu
@@ -87,5 +87,15 @@ break_it 13 plain/src/page.rs '/^fn checksum/,/^}/s/\.over(&\[0; 4\])//' \
     agree_on_histories agree_on_histories
 break_it 14 plain/src/sight.rs 's/number != self.number && reserved/reserved/' \
     agree_on_damage agree_on_reserved_numbers
+break_it 15 plain/src/rows.rs 's/desk\.spoil(place);//' \
+    agree_on_histories agree_on_histories
+break_it 16 plain/src/sessions.rs '/^pub fn commit/,/^}/s/unspoiled_session/session/' \
+    agree_on_histories agree_on_histories
+break_it 17 plain/src/rows.rs 's/refusal == Refusal::WriterCommitted/refusal.number() >= 9/' \
+    agree_on_histories agree_on_histories
+break_it 18 plain/src/desk.rs 's/self\.marks\.copy_within(place + 1\.\.=last, place);//' \
+    agree_on_histories agree_on_histories
+break_it 19 plain/src/desk.rs 's/column_sound(&self\.marks, open, Self::SPOILED)/true/' \
+    agree_on_damage agree_on_desks
 
 exit "$((unnoticed > 0))"

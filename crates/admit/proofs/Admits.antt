@@ -1,23 +1,25 @@
 -- What admission says to a call: where a session is refused, the call's list of refusals answers that number whatever stands behind
 -- it; where it is admitted, the list goes on behind 4. Once, for all session calls. Assumes nothing.
-use mathlib.Core.Path.{_≡_, refl, sym, ap}
+use mathlib.Core.Path.{_≡_, refl, sym, ap, _∙_}
 use mathlib.Core.Bool.{Bool, true, false, not, cond}
 use mathlib.Core.List.{List, _∷_}
 use Prim.Native.Nat.{ℕ, _<_, _≤_}
 use native.Mathlib.Omega.{arith}
-use lib.Dec.{ltb}
+use lib.Dec.{eqb, ltb}
 use borrow.Author.Tests.{eq-eqb, ne-eqb, lt-ltb, le-ltb}
 use Rattle.ground.specs.Refuse.{firstOf, settle}
 use Rattle.answer.specs.declared.Answer.{Answer}
-use Rattle.answer.specs.declared.Answer.the-variants.{BadLength, Unsound, NotOpen}
+use Rattle.answer.specs.declared.Answer.the-variants.{BadLength, Unsound, NotOpen, Spoiled}
 use Rattle.answer.specs.Code.{codeOf}
 use Rattle.places.specs.Open.{placeIn, isOpen}
 use Rattle.desk.specs.declared.Desk.{Desk}
 use Rattle.desk.specs.Sound.{sound}
+use Rattle.desk.specs.Turns.{spoiledAt}
+use Rattle.sessions.proofs.Changes.{isOpen-place}
 use Rattle.kind.specs.Kind.{lengthsOk}
 use Rattle.admit.specs.declared.Admitted.{Admitted}
 use Rattle.admit.specs.declared.Admitted.the-variants.{At, Refused}
-use Rattle.admit.specs.Admit.{admitOf}
+use Rattle.admit.specs.Admit.{admitOf, unlessSpoiled, unspoiledOf}
 
 -- ---- the three tests, as bools
 
@@ -35,6 +37,13 @@ refusedBy false b o k n rest done refused e = let q : BadLength ≡ n = cc in ap
 refusedBy true false o k n rest done refused e = let q : Unsound ≡ n = cc in ap (λ (a : Answer). refused (codeOf a)) q
 refusedBy true true false k n rest done refused e = let q : NotOpen ≡ n = cc in ap (λ (a : Answer). refused (codeOf a)) q
 refusedBy true true true k n rest done refused e = let z : _≡_ {A = ℕ} 0 1 = cc in absurd (omega arith)
+
+-- none of them tells of a lost conflict
+calmBy : (l b o : Bool) (k : ℕ) (n : Answer) → admitBy l b o k ≡ Refused n → eqb (codeOf n) 10 ≡ false
+calmBy false b o k n e = let q : BadLength ≡ n = cc in ap (λ (a : Answer). eqb (codeOf a) 10) (sym q)
+calmBy true false o k n e = let q : Unsound ≡ n = cc in ap (λ (a : Answer). eqb (codeOf a) 10) (sym q)
+calmBy true true false k n e = let q : NotOpen ≡ n = cc in ap (λ (a : Answer). eqb (codeOf a) 10) (sym q)
+calmBy true true true k n e = let z : _≡_ {A = ℕ} 0 1 = cc in absurd (omega arith)
 
 -- what an admission tells: all three tests held, and the place
 pub record Passed (l b o : Bool) (k p : ℕ) : Type 0 where
@@ -64,9 +73,17 @@ module _ (d u s : ℕ) (desk : Desk) (x : ℕ) where
   admitOf-refused n rest done refused e =
       refusedBy (lengthsOk d u s) (sound desk) (isOpen x (desk .numbers)) (placeIn x (desk .numbers)) n rest done refused e
 
+  pub admitOf-calm : (n : Answer) → admitOf d u s desk x ≡ Refused n → eqb (codeOf n) 10 ≡ false
+  unfolding admitOf
+  admitOf-calm n e = calmBy (lengthsOk d u s) (sound desk) (isOpen x (desk .numbers)) (placeIn x (desk .numbers)) n e
+
   pub admitOf-at : (p : ℕ) → admitOf d u s desk x ≡ At p → Admission p
   unfolding admitOf
   admitOf-at p e = passedBy (lengthsOk d u s) (sound desk) (isOpen x (desk .numbers)) (placeIn x (desk .numbers)) p e
+
+  -- the place is one of the desk's
+  pub admitOf-place : (p : ℕ) → admitOf d u s desk x ≡ At p → p < 16
+  admitOf-place p e = let a = admitOf-at p e in omega (arith, a .place, isOpen-place x (desk .numbers) (a .opened))
 
   pub firstOf-asked : (p : ℕ) (rest : List (Bool × ℕ)) → Admission p → firstOf (asked rest) ≡ firstOf rest
   firstOf-asked p rest a = rw (a .lengths, a .sound, a .opened)
@@ -95,3 +112,18 @@ module _ (d u s : ℕ) (desk : Desk) (x : ℕ) where
     admitOf-some k e ne h =
         let o : ltb (placeIn x (desk .numbers)) 16 ≡ true = lt-ltb (placeIn x (desk .numbers)) 16 (omega arith) in
         rw (l, b, ne-eqb x 0 ne, o) (ap At (sym e))
+
+  -- ---- as the function finds it for the calls that a spoiled session is refused
+
+  pub unspoiled-refused : (n : Answer) → admitOf d u s desk x ≡ Refused n → unspoiledOf d u s desk x ≡ Refused n
+  unfolding unspoiledOf
+  unspoiled-refused n e = ap (unlessSpoiled desk) e
+
+  module _ (k : ℕ) (e : admitOf d u s desk x ≡ At k) where
+    pub unspoiled-18 : spoiledAt k desk ≡ true → unspoiledOf d u s desk x ≡ Refused Spoiled
+    unfolding unspoiledOf
+    unspoiled-18 m = ap (unlessSpoiled desk) e ∙ ap (λ (t : Bool). cond t (Refused Spoiled) (At k)) m
+
+    pub unspoiled-at : spoiledAt k desk ≡ false → unspoiledOf d u s desk x ≡ At k
+    unfolding unspoiledOf
+    unspoiled-at m = ap (unlessSpoiled desk) e ∙ ap (λ (t : Bool). cond t (Refused Spoiled) (At k)) m

@@ -4,13 +4,13 @@ use mathlib.Core.List.{[], _∷_}
 use Prim.Native.Nat.{ℕ}
 use lib.ListN.{getD}
 use Rattle.answer.specs.declared.Answer.{Answer}
-use Rattle.answer.specs.declared.Answer.the-variants.{Done, BadLength, Unsound, BadPages, NotOpen, BadArgument, Broken, NotThere, OwnWrite, InWork, Conflict, NoRoom, TooManyOpen, NumbersUsed, StatementsUsed, StillOpen, IllFormed, InDoubt}
+use Rattle.answer.specs.declared.Answer.the-variants.{Done, BadLength, Unsound, BadPages, NotOpen, BadArgument, Broken, NotThere, OwnWrite, InWork, Conflict, NoRoom, TooManyOpen, NumbersUsed, StatementsUsed, StillOpen, IllFormed, InDoubt, Spoiled}
 use Rattle.answer.specs.Code.{codeOf}
 
 -- the answer that a number stands for
 abbrev answerOf : ℕ → Answer
 answerOf n =
-    getD (Done ∷ BadLength ∷ Unsound ∷ BadPages ∷ NotOpen ∷ BadArgument ∷ Broken ∷ NotThere ∷ OwnWrite ∷ InWork ∷ Conflict ∷ NoRoom ∷ TooManyOpen ∷ NumbersUsed ∷ StatementsUsed ∷ StillOpen ∷ IllFormed ∷ InDoubt ∷ []) n Done
+    getD (Done ∷ BadLength ∷ Unsound ∷ BadPages ∷ NotOpen ∷ BadArgument ∷ Broken ∷ NotThere ∷ OwnWrite ∷ InWork ∷ Conflict ∷ NoRoom ∷ TooManyOpen ∷ NumbersUsed ∷ StatementsUsed ∷ StillOpen ∷ IllFormed ∷ InDoubt ∷ Spoiled ∷ []) n Done
 
 answerOf-codeOf : (a : Answer) → answerOf (codeOf a) ≡ a
 answerOf-codeOf Done = refl
@@ -31,6 +31,7 @@ answerOf-codeOf StatementsUsed = refl
 answerOf-codeOf StillOpen = refl
 answerOf-codeOf IllFormed = refl
 answerOf-codeOf InDoubt = refl
+answerOf-codeOf Spoiled = refl
 
 pub codeOf-injective : (a b : Answer) → codeOf a ≡ codeOf b → a ≡ b
 codeOf-injective a b e = sym (answerOf-codeOf a) ∙ ap answerOf e ∙ answerOf-codeOf b

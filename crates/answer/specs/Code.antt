@@ -1,8 +1,8 @@
 -- The number of each answer ("01, When the desk says no", the table; 16 from "01, The script",
--- 17 from "02, T-05"). Assumes nothing.
+-- 17 from "02, T-05", 18 from "02, T-07"). Assumes nothing.
 use Prim.Native.Nat.{ℕ}
 use Rattle.answer.specs.declared.Answer.{Answer}
-use Rattle.answer.specs.declared.Answer.the-variants.{Done, BadLength, Unsound, BadPages, NotOpen, BadArgument, Broken, NotThere, OwnWrite, InWork, Conflict, NoRoom, TooManyOpen, NumbersUsed, StatementsUsed, StillOpen, IllFormed, InDoubt}
+use Rattle.answer.specs.declared.Answer.the-variants.{Done, BadLength, Unsound, BadPages, NotOpen, BadArgument, Broken, NotThere, OwnWrite, InWork, Conflict, NoRoom, TooManyOpen, NumbersUsed, StatementsUsed, StillOpen, IllFormed, InDoubt, Spoiled}
 
 abbrev pub codeOf : Answer → ℕ
 codeOf Done = 0
@@ -23,3 +23,4 @@ codeOf StatementsUsed = 14
 codeOf StillOpen = 15
 codeOf IllFormed = 16
 codeOf InDoubt = 17
+codeOf Spoiled = 18

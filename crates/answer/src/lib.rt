@@ -40,6 +40,8 @@ pub enum Answer {
     IllFormed,
     // 17: a version looked at names a number of status 11, told between 6 and 7
     InDoubt,
+    // 18: session spoiled by an earlier 10, told directly after 4
+    Spoiled,
 }
 
 // The number that the paper gives an answer.
@@ -65,5 +67,6 @@ pub fn code(a: Answer) -> u32
         Answer::StillOpen => 15,
         Answer::IllFormed => 16,
         Answer::InDoubt => 17,
+        Answer::Spoiled => 18,
     }
 }

@@ -68,10 +68,10 @@ insertLeaves a d x body =
     let r = insertRule a d x body in left (r .0 .0) (r .0 .1) 0 Nowhere (areas (r .1) (a .undo) (a .status)) d
 
 abbrev pub updateLeaves : Areas → Desk → ℕ → ℕ → List ℕ → Left
-updateLeaves a d x row body = let r = updateRule a d x row body in bare (r .0) (r .1) d
+updateLeaves a d x row body = let r = updateRule a d x row body in bare (r .0 .0) (r .1) (r .0 .1)
 
 abbrev pub deleteLeaves : Areas → Desk → ℕ → ℕ → Left
-deleteLeaves a d x row = let r = deleteRule a d x row in bare (r .0) (areas (r .1) (a .undo) (a .status)) d
+deleteLeaves a d x row = let r = deleteRule a d x row in bare (r .0 .0) (areas (r .1) (a .undo) (a .status)) (r .0 .1)
 
 abbrev pub readLeaves : Areas → Desk → ℕ → ℕ → Left
 readLeaves a d x row = let r = readRule a d x row in left (r .0) (r .2) 0 (r .1) a d

@@ -1,5 +1,5 @@
-// Plays the conflict cases of "01, When the desk says no" and the gauge pieces P5 to P8 on a store of one page an area, each on a
-// freshly formatted one. A line for each call: its name, the session and the row, a tab, then the number and the values it answers.
+// Plays the conflict cases of "01, When the desk says no" and "02, T-07", and the gauge pieces P5 to P8, on a store of one page an area, each
+// on a freshly formatted one. A line for each call: its name, the session and the row, a tab, then the number and the values it answers.
 use answer::Answer;
 use words::Words;
 
@@ -63,14 +63,14 @@ fn insert(data: &mut [u8], undo: &[u8], status: &[u8], desk: &Words, s: u64) {
     io::write_all(1, b"\n");
 }
 
-fn update<'a>(data: &mut [u8], undo: &mut [u8], status: &'a [u8], desk: &'a Words, s: u64) {
+fn update(data: &mut [u8], undo: &mut [u8], status: &[u8], desk: &mut Words, s: u64) {
     let a = rows::update(data, undo, status, desk, s, 0, &NEW);
     call(b"update", s);
     value(b" ", 0);
     said(a);
 }
 
-fn delete<'a>(data: &mut [u8], undo: &'a [u8], status: &'a [u8], desk: &'a Words, s: u64) {
+fn delete<'a>(data: &mut [u8], undo: &'a [u8], status: &'a [u8], desk: &mut Words, s: u64) {
     let a = rows::delete(data, undo, status, desk, s, 0);
     call(b"delete", s);
     value(b" ", 0);
@@ -92,7 +92,7 @@ fn read<'a>(data: &'a [u8], undo: &'a [u8], status: &'a [u8], desk: &'a Words, s
     io::write_all(1, b"\n");
 }
 
-// One call of a case, by its first letter. Begin, next and commit change the words of the desk.
+// One call of a case, by its first letter. Begin, next and commit change the words of the desk; update and delete do where they answer 10.
 fn play(data: &mut [u8], undo: &mut [u8], status: &mut [u8], desk: &mut Words, letter: u8, s: u64) {
     if letter == b'b' {
         begin(data, undo, status, desk);
@@ -157,7 +157,8 @@ fn own_writes() {
 }
 
 // Another session's. "Another expirer: 10 if committed, else 9"; "creator .. seen: go on; otherwise 10 if committed, else 9". The expirer is
-// looked at first: the creator committed after session 3 began, the expirer is in work, so 9.
+// looked at first: the creator committed after session 3 began, the expirer is in work, so 9. After its 10 session 3 may only read and
+// withdraw: "insert, update, delete, next and commit answer 18" ("02, T-07").
 fn other_writes() {
     let mut data = [0; 8192];
     let mut undo = [0; 8192];
@@ -173,8 +174,8 @@ fn other_writes() {
         &mut data,
         &mut undo,
         &mut status,
-        b"9, 10: another's update",
-        b"b1i1c1b2b3u2u3c2d3r3b4u4",
+        b"9, 10, 18: another's update",
+        b"b1i1c1b2b3u2u3c2d3n3i3u3d3c3r3b4u4",
     );
     case(
         &mut data,

@@ -19,6 +19,8 @@ impl Limits {
     pub const PLACES: usize = Limits::SESSIONS * Limits::MEMBERS;
     // "its statement (0 to 65,535)"
     pub const LAST_STATEMENT: u32 = 65535;
+    // the mark of a session that is spoiled ("02, T-07"); of all others it is 0
+    pub const SPOILED: u32 = 1;
 }
 
 // A place for each session, and the lists of all of them. Every number of a desk is below 2^20, so that 32 bits hold it.

@@ -91,19 +91,19 @@ fn insert(what: &[u8], data: &mut [u8], undo: &[u8], status: &[u8], desk: &Words
 }
 
 // Of session 3, and so the delete.
-fn update<'a>(
+fn update(
     what: &[u8],
     data: &mut [u8],
     undo: &mut [u8],
-    status: &'a [u8],
-    desk: &'a Words,
+    status: &[u8],
+    desk: &mut Words,
     body: &[u8],
 ) {
     let a = rows::update(data, undo, status, desk, 3, 0, body);
     line(what, b"update 3 0", a);
 }
 
-fn delete<'a>(what: &[u8], data: &mut [u8], undo: &'a [u8], status: &'a [u8], desk: &'a Words) {
+fn delete<'a>(what: &[u8], data: &mut [u8], undo: &'a [u8], status: &'a [u8], desk: &mut Words) {
     let a = rows::delete(data, undo, status, desk, 3, 0);
     line(what, b"delete 3 0", a);
 }
@@ -152,7 +152,7 @@ fn two_begun(data: &[u8], undo: &[u8], status: &mut [u8], desk: &mut Words) {
 fn updated(data: &mut [u8], undo: &mut [u8], status: &mut [u8]) -> Words {
     let mut desk = stocked(data, undo, status);
     two_begun(data, undo, status, &mut desk);
-    rows::update(data, undo, status, &desk, 2, 0, &NEW);
+    rows::update(data, undo, status, &mut desk, 2, 0, &NEW);
     desk
 }
 
@@ -184,6 +184,14 @@ fn desk_of(next: u32, first: u32, second: u32) -> Words {
     desk
 }
 
+// The words of a desk with session 1 alone, and these marks at its place and at the unused one behind it.
+fn marked(first: u32, second: u32) -> Words {
+    let mut desk = desk_of(2, 1, 0);
+    desk[Layout::MARKS] = first;
+    desk[Layout::MARKS + 1] = second;
+    desk
+}
+
 // A call of each kind on a desk that is not sound. Each is refused and so alters nothing, and the next finds the same store and desk.
 fn try_desk(what: &[u8], data: &mut [u8], undo: &mut [u8], status: &mut [u8], desk: &mut Words) {
     begin(what, data, undo, status, desk);
@@ -192,8 +200,7 @@ fn try_desk(what: &[u8], data: &mut [u8], undo: &mut [u8], status: &mut [u8], de
     read(what, b"read 1 0", data, undo, status, desk, 1);
 }
 
-fn on_desk(what: &[u8], next: u32, first: u32, second: u32) {
-    let mut desk = desk_of(next, first, second);
+fn on_desk(what: &[u8], mut desk: Words) {
     let mut data = [0; 8192];
     let mut undo = [0; 8192];
     let mut status = [0; 8192];
@@ -202,14 +209,16 @@ fn on_desk(what: &[u8], next: u32, first: u32, second: u32) {
 }
 
 // 2: "desk unsound". "The desk holds the next number (1 to 32,576) and at most 16 open sessions in ascending order. Each has its number
-// (below next)".
+// (below next)". Its mark says whether it is spoiled or not, and that of an unused place is 0 ("02, T-07").
 fn unsound_desks() {
-    on_desk(b"next is 0", 0, 0, 0);
-    on_desk(b"next is 32,577", 32577, 0, 0);
-    on_desk(b"session 2 before session 1", 3, 2, 1);
-    on_desk(b"session 1 twice", 3, 1, 1);
-    on_desk(b"session 3 where next is 3", 3, 1, 3);
-    on_desk(b"an unused place before session 1", 3, 0, 1);
+    on_desk(b"next is 0", desk_of(0, 0, 0));
+    on_desk(b"next is 32,577", desk_of(32577, 0, 0));
+    on_desk(b"session 2 before session 1", desk_of(3, 2, 1));
+    on_desk(b"session 1 twice", desk_of(3, 1, 1));
+    on_desk(b"session 3 where next is 3", desk_of(3, 1, 3));
+    on_desk(b"an unused place before session 1", desk_of(3, 0, 1));
+    on_desk(b"a mark of 2", marked(2, 0));
+    on_desk(b"an unused place with a mark", marked(0, 1));
 }
 
 // A store opened before it is sealed, and behind the seal.
@@ -292,9 +301,9 @@ fn wrong_update() {
     let mut data = [0; 8192];
     let mut undo = [0; 8192];
     let mut status = [0; 8192];
-    let desk = updated(&mut data, &mut undo, &mut status);
+    let mut desk = updated(&mut data, &mut undo, &mut status);
     let what = b"a body of 31 bytes";
-    update(what, &mut data, &mut undo, &status, &desk, &[0; 31]);
+    update(what, &mut data, &mut undo, &status, &mut desk, &[0; 31]);
 }
 
 // The five calls that follow a chain, on one damaged store: each is refused and so alters nothing.

@@ -19,7 +19,7 @@ firstStatement = 0
 -- "a desk without sessions"
 unfoldable pub freshDesk : ℕ → Desk
 freshDesk next =
-    record { next = next; numbers = replicate sessions 0; statements = replicate sessions 0; lists = replicate places 0 }
+    record { next = next; numbers = replicate sessions 0; statements = replicate sessions 0; marks = replicate sessions 0; lists = replicate places 0 }
 
 -- what stands for a desk where none comes back: all its numbers are 0, and it is unsound
 abbrev pub noDesk : Desk

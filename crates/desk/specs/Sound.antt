@@ -11,12 +11,12 @@ use Rattle.desk.specs.declared.Desk.{Desk}
 use Rattle.desk.specs.Desk.{firstNumber, lastNext}
 
 -- "the next number (1 to 32,576) and at most 16 open sessions in ascending order. Each has its number (below next)"
-unfoldable pub soundColumns : ℕ → List ℕ → List ℕ → List ℕ → Bool
-soundColumns next numbers statements lists =
+unfoldable pub soundColumns : ℕ → List ℕ → List ℕ → List ℕ → List ℕ → Bool
+soundColumns next numbers statements marks lists =
     leb firstNumber next
     && (leb next lastNext
     && (ascending next numbers 0 sessions
-    && allBelow (sessionSound numbers statements lists) sessions))
+    && allBelow (sessionSound numbers statements marks lists) sessions))
 
 unfoldable pub sound : Desk → Bool
-sound d = soundColumns (d .next) (d .numbers) (d .statements) (d .lists)
+sound d = soundColumns (d .next) (d .numbers) (d .statements) (d .marks) (d .lists)

@@ -18,6 +18,8 @@ pub struct Desk {
     // The open sessions' numbers, ascending, and the statement of each.
     pub numbers: Column,
     pub statements: Column,
+    // 1 where the session is spoiled, else 0 ("02, T-07"). It is no part of the sweep's mark.
+    pub marks: Column,
     // The numbers open when each began, ascending: 15 places a session.
     pub lists: Lists,
 }
@@ -38,12 +40,13 @@ impl Desk {
             next,
             numbers: [0; Limits::SESSIONS],
             statements: [0; Limits::SESSIONS],
+            marks: [0; Limits::SESSIONS],
             lists: [0; Limits::PLACES],
         }
     }
 
     // "Begin hands out the next number, with statement 0", and with the numbers open then. The new session stands behind the
-    // open ones. The caller has refused where 16 are open or no number is left.
+    // open ones, and is not marked. The caller has refused where 16 are open or no number is left.
     pub fn begin(mut self) -> Desk
         requires { ⌜ (openCount (self .numbers) < sessions) × (self .next ≤ lastNext) ⌝ }
         ensures { λ r. ⌜ r ≡ begun self ⌝ }
@@ -54,6 +57,7 @@ impl Desk {
         columns::with_list(&mut self.lists, k * Limits::MEMBERS, open);
         self.numbers[k] = next;
         self.statements[k] = Desk::FIRST_STATEMENT;
+        self.marks[k] = 0;
         self.next = next + 1;
         self
     }
@@ -91,6 +95,7 @@ impl Desk {
     {
         columns::without_place(&mut self.numbers, k);
         columns::without_place(&mut self.statements, k);
+        columns::without_place(&mut self.marks, k);
         columns::without_list(&mut self.lists, k * Limits::MEMBERS);
         self
     }
@@ -102,11 +107,12 @@ pub fn columns_sound<'a>(
     next: u32,
     numbers: &'a [u32],
     statements: &'a [u32],
+    marks: &'a [u32],
     lists: &'a [u32],
 ) -> bool
-    requires { ⌜ (length (now numbers) ≡ sessions) × (length (now statements) ≡ sessions) × (length (now lists) ≡ places) ⌝ }
-    ensures { λ r. ⌜ r ≡ soundColumns next (now (numbers .entry)) (now (statements .entry)) (now (lists .entry)) ⌝ }
+    requires { ⌜ (length (now numbers) ≡ sessions) × (length (now statements) ≡ sessions) × (length (now marks) ≡ sessions) × (length (now lists) ≡ places) ⌝ }
+    ensures { λ r. ⌜ r ≡ soundColumns next (now (numbers .entry)) (now (statements .entry)) (now (marks .entry)) (now (lists .entry)) ⌝ }
 {
     (Desk::FIRST_NUMBER <= next) & (next <= Desk::LAST_NEXT)
-        && places::sessions_sound(next, numbers, statements, lists)
+        && places::sessions_sound(next, numbers, statements, marks, lists)
 }

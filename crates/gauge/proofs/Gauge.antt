@@ -16,7 +16,7 @@ use Rattle.places.specs.Places.{follows, placed, ascending, sessionSound}
 use Rattle.desk.specs.declared.Desk.{Desk}
 use Rattle.desk.specs.Desk.{freshDesk}
 use Rattle.desk.specs.Sound.{soundColumns, sound}
-use Rattle.desk.specs.Turns.{moved, mark}
+use Rattle.desk.specs.Turns.{moved, mark, isSpoiled, spoiledAt}
 use Rattle.sight.specs.declared.Stamp.{Stamp}
 use Rattle.sight.specs.Sight.{standing, committed, sees, earlier, known, there}
 use Rattle.sight.specs.Conflict.{conflictOf, isDead}
@@ -28,19 +28,19 @@ use Rattle.trimming.specs.Trimming.{deadIn, sweptAt, sweptAll, cutAt, sweptBehi
 use Rattle.turns.specs.Turns.{nextRefusal, nextRule}
 use Rattle.gauge.specs.Gauge.{oneOpen, six, endedByFive, TwoVersions, Gauge}
 
--- ---- P11, P12: next statement, where the session is open, by its statement
+-- ---- P11, P12: next statement, where the session is open and not spoiled, by its statement
 
-next-goes : (a : Areas) (d : Desk) (x : ℕ) → badLength a ≡ false → sound d ≡ true → isOpen x (d .numbers) ≡ true
+next-goes : (a : Areas) (d : Desk) (x : ℕ) → badLength a ≡ false → sound d ≡ true → isOpen x (d .numbers) ≡ true → isSpoiled x d ≡ false
     → eqb (getD (d .statements) (placeIn x (d .numbers)) 0) 65535 ≡ false
     → nextRule a d x ≡ (0, moved (placeIn x (d .numbers)) d)
 unfolding nextRule nextRefusal
-next-goes a d x l b o e = rw (l, b, o, e)
+next-goes a d x l b o m e = rw (l, b, o, m, e)
 
-next-stays : (a : Areas) (d : Desk) (x : ℕ) → badLength a ≡ false → sound d ≡ true → isOpen x (d .numbers) ≡ true
+next-stays : (a : Areas) (d : Desk) (x : ℕ) → badLength a ≡ false → sound d ≡ true → isOpen x (d .numbers) ≡ true → isSpoiled x d ≡ false
     → eqb (getD (d .statements) (placeIn x (d .numbers)) 0) 65535 ≡ true
     → nextRule a d x ≡ (14, d)
 unfolding nextRule nextRefusal
-next-stays a d x l b o e = rw (l, b, o, e)
+next-stays a d x l b o m e = rw (l, b, o, m, e)
 
 -- ---- P9, P10: a version stays whose expirer is not below the mark, and goes whose expirer is below it and committed
 
@@ -80,7 +80,7 @@ module _ (m : ℕ) (s : List ℕ) (r : ℕ) (p : Both) (x y : Version) (two : Tw
       emptied = both (sweptSlot r (p .«data»)) (sweptAt (y .place) (p .undo))
 
 pub gauge : Gauge
-unfolding pointerTo there known sees earlier conflictOf mark markOf smallest freshDesk sound soundColumns ascending placed follows sessionSound isOpen placeIn firstFrom allBelow moved
+unfolding pointerTo there known sees earlier conflictOf mark markOf smallest freshDesk sound soundColumns ascending placed follows sessionSound isOpen placeIn firstFrom allBelow moved spoiledAt
 gauge =
     record {
       p1 = (refl, refl);
@@ -102,6 +102,6 @@ gauge =
             swept-two (mark (freshDesk 6)) s r p x y two true
             (ap (isDead (mark (freshDesk 6)) s) (two .expired) ∙ goes (mark (freshDesk 6)) s endedByFive (five s h) refl),
       );
-      p11 = λ a l. next-goes a (oneOpen 65534) 1 l refl refl refl;
-      p12 = λ a l. next-stays a (oneOpen 65535) 1 l refl refl refl;
+      p11 = λ a l. next-goes a (oneOpen 65534) 1 l refl refl refl refl;
+      p12 = λ a l. next-stays a (oneOpen 65535) 1 l refl refl refl refl;
     }

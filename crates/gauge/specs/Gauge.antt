@@ -29,11 +29,11 @@ seven k = record { number = 7; statement = k; list = replicate 15 0 }
 
 -- a desk with one session, number 1, in statement k
 abbrev pub oneOpen : ℕ → Desk
-oneOpen k = record { next = 2; numbers = 1 ∷ replicate 15 0; statements = k ∷ replicate 15 0; lists = replicate 240 0 }
+oneOpen k = record { next = 2; numbers = 1 ∷ replicate 15 0; statements = k ∷ replicate 15 0; marks = replicate 16 0; lists = replicate 240 0 }
 
 -- P9's desk: session 6 with list {5}, next 7
 abbrev pub six : Desk
-six = record { next = 7; numbers = 6 ∷ replicate 15 0; statements = replicate 16 0; lists = 5 ∷ replicate 239 0 }
+six = record { next = 7; numbers = 6 ∷ replicate 15 0; statements = replicate 16 0; marks = replicate 16 0; lists = 5 ∷ replicate 239 0 }
 
 -- an insert of session 7 in statement 3, its update of an own version of statement 2, and a version that 5 ended
 abbrev pub inserted : Stamp

@@ -1,4 +1,5 @@
 pub mod About
+pub mod Told
 pub mod Steps
 pub mod Worlds
 pub mod Accepts
@@ -13,5 +14,6 @@ pub mod Restored
 pub mod Counted
 pub mod Reopened
 pub mod Progress
+pub mod Spoiled
 pub mod Promises
 pub mod Since

@@ -3,7 +3,7 @@
 use Prim.Native.Nat.{ℕ, _≤_, _<_}
 use mathlib.Core.Path.{_≡_, refl, ap, sym, subst, _∙_}
 use mathlib.Core.Logic.{_⊎_, inl, inr, ⊎-elim}
-use mathlib.Core.Bool.{Bool, true, false, not, _&&_, _||_, cond}
+use mathlib.Core.Bool.{Bool, true, false, not, _&&_, _||_, cond, and-true}
 use mathlib.Core.Option.{Option, none, some}
 use mathlib.Core.List.{List, [], _∷_}
 use native.Mathlib.Omega.{arith}
@@ -11,8 +11,10 @@ use lib.Dec.{eqb, ltb}
 use lib.ListN.{length, getD}
 use borrow.Author.Tests.{eqb-true, ne-eqb, le-ltb}
 use Rattle.ground.proofs.Ranges.{lt-or-le, and-true-left, and-true-right}
-use Rattle.places.specs.Open.{openCount, isOpen}
-use Rattle.sessions.proofs.Changes.{getD-isOpen, open-used}
+use Rattle.places.specs.Open.{openCount, placeIn, isOpen}
+use Rattle.desk.specs.Turns.{spoiled, isSpoiled}
+use Rattle.sessions.proofs.Changes.{isOpen-place, getD-isOpen, open-used}
+use Rattle.sessions.proofs.Marks.{spoiled-marked, spoiled-others}
 use Rattle.kind.specs.Kind.{rows}
 use Rattle.chain.specs.Chain.{chainOf}
 use Rattle.rows.specs.Rows.{viewIn}
@@ -29,9 +31,10 @@ use Rattle.seen.specs.Seen.{standings, allHeld, rowOf, openSessions}
 use Rattle.seen.proofs.Knowing.{sessionOf, sees-is}
 use Rattle.seen.proofs.Desks.{find-open, find-closed}
 use Rattle.history.specs.World.{World, says, after, afterAll, linesOf}
-use Rattle.history.specs.Asked.{Proper, AllProper, Run, start, end, history, allSpare, bodyRead, Matches, standingIn}
-use Rattle.history.specs.Theorems.{Reading, ReadingOutside, NothingElse, Unaltered, SweepAltersNone, KeepingAltersNone, BeginAltersNone, RowCallsAlterNone, OthersAlterNone, Restores, Empties, Spares, NoSix, NoSeventeen, NoneReservedEver, SealedOpens, Count, RefusedLeaves, SeesExactlyWhenCommittedBefore, ByNumber, Formats, Begins, Nexts, Seals, Inserts, Deletes, Updates, Ends, Sweeps}
-use Rattle.history.specs.Observers.{OpenOnDesk, StatementOnDesk, BodyOfTable, StandingOfRead}
+use Rattle.history.specs.Spoiled.{spoiledIn}
+use Rattle.history.specs.Asked.{Proper, AllProper, Run, start, end, lines, history, allSpare, bodyRead, Matches, standingIn}
+use Rattle.history.specs.Theorems.{NeverCommitted, SpoiledOnDesk, SpoiledRefused, Reading, ReadingOutside, NothingElse, Unaltered, SweepAltersNone, KeepingAltersNone, BeginAltersNone, RowCallsAlterNone, OthersAlterNone, Restores, Empties, Spares, NoSix, NoSeventeen, NoneReservedEver, SealedOpens, Count, RefusedLeaves, SeesExactlyWhenCommittedBefore, ByNumber, Formats, Begins, Nexts, Seals, Inserts, Deletes, Updates, Ends, Sweeps}
+use Rattle.history.specs.Observers.{OpenOnDesk, StatementOnDesk, BodyOfTable, StandingOfRead, MarksAlone}
 use Rattle.history.proofs.Worlds.{seen}
 use Rattle.history.proofs.Writes.{view-few}
 use Rattle.history.proofs.Answered.{Reads, read-answers, read-outside}
@@ -39,7 +42,8 @@ use Rattle.history.proofs.Refused.{leaves, never-6, never-17}
 use Rattle.history.proofs.Restored.{restored, inserted-empty, spared-rows}
 use Rattle.history.proofs.Counted.{all-calls, looked-few, read-stands}
 use Rattle.history.proofs.Reopened.{opens-again}
-use Rattle.history.proofs.Progress.{format-done, begin-done, next-done, seal-done, insert-done, delete-is, update-is, commit-done, withdraw-done, sweep-done}
+use Rattle.history.proofs.Progress.{format-done, begin-done, next-is, seal-done, insert-is, delete-is, update-is, commit-is, withdraw-done, sweep-done, insert-18, update-18, delete-18, next-18, commit-18}
+use Rattle.history.proofs.Spoiled.{lines-told, never}
 use Rattle.history.proofs.Runs.{goes, Stands, stands-call, stands-calls, stands-start, stands-end}
 
 -- ---- open sessions
@@ -230,6 +234,25 @@ count x n r k j b e =
 pub refused-leaves : RefusedLeaves
 refused-leaves w c n e = leaves w c n e
 
+-- ---- sessions that lost a conflict
+
+pub never-committed : NeverCommitted
+never-committed x n c p mine e cs ps f = never (end x) (stands-end x .good) n c p mine e cs ps f
+
+-- nobody is open where the lines begin
+pub spoiled-on-desk : SpoiledOnDesk
+spoiled-on-desk x n o =
+    let s = stands-start x .0 in
+    sym (lines-told (x .calls) (start x) (s .good) (x .proper) n false
+    (λ z. true-false (isOpen n (start x .desk .numbers)) z (opened-is (start x) [] s n)) (on-desk (end x) (history x) (stands-end x) n o))
+
+pub spoiled-refused : SpoiledRefused
+spoiled-refused x n o lost r b =
+    let g = stands-end x .good in
+    let opened = on-desk (end x) (history x) (stands-end x) n o in
+    let marked : isSpoiled n (end x .desk) ≡ true = sym (spoiled-on-desk x n o) ∙ lost in
+    (insert-18 (end x) g n opened marked b, update-18 (end x) g n opened marked r b, delete-18 (end x) g n opened marked r, next-18 (end x) g n opened marked, commit-18 (end x) g n opened marked)
+
 -- ---- no needless refusal
 
 pub formats : Formats
@@ -238,33 +261,47 @@ formats w d u s l = format-done w d u s l
 pub begins : Begins
 begins x few left = begin-done (end x) (stands-end x .good) few left
 
+-- what is done unless the mark is set is done unless the lines say so
+unless : (x : Run) (n : ℕ) → openIn (history x) n ≡ true → (done b : Bool) → done ≡ (not (isSpoiled n (end x .desk)) && b)
+    → done ≡ (not (spoiledIn (lines x) n) && b)
+unless x n o done b e = e ∙ ap (λ (t : Bool). not t && b) (sym (spoiled-on-desk x n o))
+
 pub nexts : Nexts
 nexts x n o few =
     let s = stands-end x in
-    next-done (end x) (s .good) n (on-desk (end x) (history x) s n o) (omega (arith, few, statement-is (end x) (history x) s n o))
+    unless x n o (isDone (says (end x) (next n))) true
+    (next-is (end x) (s .good) n (on-desk (end x) (history x) s n o) (omega (arith, few, statement-is (end x) (history x) s n o)))
+    ∙ and-true (not (spoiledIn (lines x) n))
 
 pub seals : Seals
 seals x nobody = seal-done (end x) (stands-end x .good) (closed (end x) (history x) (stands-end x) nobody)
 
 pub inserts : Inserts
 inserts x n o b long r inside free =
-    insert-done (end x) (stands-end x .good) n (on-desk (end x) (history x) (stands-end x) n o) b long r inside free
+    let s = stands-end x in
+    unless x n o (isDone (says (end x) (insert n b))) true (insert-is (end x) (s .good) n (on-desk (end x) (history x) s n o) b long r inside free)
+    ∙ and-true (not (spoiledIn (lines x) n))
 
 pub deletes : Deletes
 deletes x n o r =
     let s = stands-end x in
-    delete-is (end x) (s .good) n (on-desk (end x) (history x) s n o) r ∙ may-is (end x) (history x) s n o r
+    unless x n o (isDone (says (end x) (delete n r))) (mayWrite (history x) n r)
+    (delete-is (end x) (s .good) n (on-desk (end x) (history x) s n o) r
+    ∙ ap (λ (t : Bool). not (isSpoiled n (end x .desk)) && t) (may-is (end x) (history x) s n o r))
 
 pub updates : Updates
 updates x n o b long e inside free r =
     let s = stands-end x in
-    update-is (end x) (s .good) n (on-desk (end x) (history x) s n o) r b long e inside free ∙ may-is (end x) (history x) s n o r
+    unless x n o (isDone (says (end x) (update n r b))) (mayWrite (history x) n r)
+    (update-is (end x) (s .good) n (on-desk (end x) (history x) s n o) r b long e inside free
+    ∙ ap (λ (t : Bool). not (isSpoiled n (end x .desk)) && t) (may-is (end x) (history x) s n o r))
 
 pub ends : Ends
-ends x n o = (
-  commit-done (end x) (stands-end x .good) n (on-desk (end x) (history x) (stands-end x) n o),
-  withdraw-done (end x) (stands-end x .good) n (on-desk (end x) (history x) (stands-end x) n o),
-)
+ends x n o =
+    let s = stands-end x in (
+      unless x n o (isDone (says (end x) (commit n))) true (commit-is (end x) (s .good) n (on-desk (end x) (history x) s n o)) ∙ and-true (not (spoiledIn (lines x) n)),
+      withdraw-done (end x) (s .good) n (on-desk (end x) (history x) s n o),
+    )
 
 pub sweeps : Sweeps
 sweeps x first quota few = sweep-done (end x) (stands-end x .good) first quota few
@@ -292,3 +329,17 @@ standing-of-read x n r j b e =
     who : (y : ℕ) (a c : Bool) → (a || (eqb y n && c)) ≡ true → (y ≡ n) ⊎ (a ≡ true)
     who y true c e = inr refl
     who y false c e = inl (eqb-true y n (and-true-left (eqb y n) c e))
+
+pub marks-alone : MarksAlone
+unfolding spoiled
+marks-alone x n o =
+    let s = stands-end x in
+    let opened = on-desk (end x) (history x) s n o in (
+      refl,
+      refl,
+      refl,
+      refl,
+      refl,
+      spoiled-marked (end x .desk) (s .good .long) (placeIn n (end x .desk .numbers)) (isOpen-place n (end x .desk .numbers) opened),
+      λ m p other. spoiled-others (end x .desk) n m (on-desk (end x) (history x) s m p) other,
+    )

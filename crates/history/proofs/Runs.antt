@@ -1,22 +1,25 @@
 -- Every call keeps a world good and does on the machine what its answer says; so any calls from an accepted format lead to a good world
 -- that the history reaches on the machine. Assumes nothing.
-use mathlib.Core.Path.{_≡_, refl, sym, subst}
-use mathlib.Core.Bool.{true, false, not}
+use Prim.Native.Nat.{ℕ, suc}
+use mathlib.Core.Path.{_≡_, refl, sym, subst, _∙_}
+use mathlib.Core.Bool.{Bool, true, false, not}
 use mathlib.Core.List.{List, [], _∷_}
 use Rattle.ground.proofs.Ranges.{and-true-left, and-true-right}
-use borrow.Author.Tests.{not-true}
+use lib.Dec.{eqb}
+use borrow.Author.Tests.{eqb-true, eqb-false, not-true}
 use Rattle.kind.specs.Areas.{areas, badLength}
 use Rattle.chain.specs.Walk.{bodyOf}
 use Rattle.machine.specs.Table.{History}
-use Rattle.machine.specs.Lines.{Call, format, opens, seal, begin, next, insert, update, delete, read, commit, withdraw, sweep, isDone, isFormat, heard, historyFrom}
+use Rattle.machine.specs.Lines.{Call, format, opens, seal, begin, next, insert, update, delete, read, commit, withdraw, sweep, refused, isDone, isFormat, heard, historyFrom}
 use Rattle.machine.specs.Machine.{Machine, empty}
 use Rattle.machine.specs.Runs.{From, start as here, Reach}
 use Rattle.machine.proofs.Basics.{true-false}
 use Rattle.machine.proofs.Follows.{from-then, did-leads, did-reaches}
-use Rattle.history.specs.World.{World, Response, step, says, after, afterAll, linesOf}
+use Rattle.history.specs.World.{World, Response, response, step, says, after, afterAll, linesOf}
 use Rattle.history.specs.Asked.{Proper, AllProper, Run, start, end, history, noFormat}
-use Rattle.history.proofs.Worlds.{seen, Good, Goes, stays}
-use Rattle.history.proofs.Steps.{refusalOf, whenDone, step-settled}
+use Rattle.history.proofs.Worlds.{seen, Good, Goes, stays, marks}
+use Rattle.history.proofs.Steps.{refusalOf, whenDone, whenRefused, step-settled}
+use Rattle.history.proofs.Refused.{Kept, refused-kept, lost-open}
 use Rattle.history.proofs.Sessions.{moves, commits, begins}
 use Rattle.history.proofs.Writes.{inserting, deleting, updating}
 use Rattle.history.proofs.Removals.{withdrawing, sweeping}
@@ -40,8 +43,24 @@ module _ (w : World) (g : Good w) where
   does (withdraw x) p ok = withdrawing w g x ok
   does (sweep first quota) p ok = sweeping w g first quota ok
 
+  -- a refusal leaves the world, or marks an open session
+  refuses : (c : Call) (n : ℕ) → refusalOf w c ≡ n → Goes w c (whenRefused w c n)
+  refuses c n e = by (eqb n 10) refl
+    where
+      on : World
+      on = whenRefused w c n .left
+
+      kept : Kept w c n on
+      kept = refused-kept w c n e
+
+      by : (b : Bool) → eqb n 10 ≡ b → Goes w c (response (refused n) on)
+      by true ten =
+          let (s, mine, is) = kept .1 (eqb-true n 10 ten) in
+          subst (λ (z : World). Goes w c (response (refused n) z)) (sym is) (marks w g s (lost-open w c s mine (e ∙ eqb-true n 10 ten)) c n)
+      by false other = subst (λ (z : World). Goes w c (response (refused n) z)) (sym (kept .0 (eqb-false n 10 other))) (stays w g c n)
+
   pub goes : (c : Call) → Proper c → Goes w c (step w c)
-  goes c p = step-settled w c (Goes w c) (does c p) (λ m e. stays w g c _)
+  goes c p = step-settled w c (Goes w c) (does c p) (λ m e. refuses c (suc m) e)
 
 -- ---- calls one after the other
 

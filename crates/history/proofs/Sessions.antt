@@ -21,7 +21,7 @@ use Rattle.page.proofs.Headers.{length-putField}
 use Rattle.status.specs.declared.Status.the-variants.{InWork, Committed}
 use Rattle.status.specs.Status.{putStatus}
 use Rattle.status.proofs.StatusLaws.{length-putStatus}
-use Rattle.admit.proofs.Admissions.{accepts, admits-status}
+use Rattle.admit.proofs.Admissions.{accepts-unspoiled, admits-status}
 use Rattle.turns.specs.Turns.{beginRefusal, nextRefusal, commitRefusal}
 use Rattle.machine.specs.Lines.{done, next as Next, commit as Commit, begin as Begin}
 use Rattle.machine.specs.Machine.{find, isSome, effect, next, begin, commit}
@@ -48,9 +48,9 @@ module _ (w : World) (g : Good w) where
     pub moves : nextRefusal (w .held) (w .desk) x ≡ 0 → Goes w (Next x) (response (done 0 0 []) (world (w .held) (moved k (w .desk))))
     unfolding nextRefusal moved
     moves ok =
-        let a = accepts (w .held .«data») (w .held .undo) (w .held .status) (w .desk) x ((eqb (getD (w .desk .statements) k 0) lastStatement, 14) ∷ []) ok in
+        let a = accepts-unspoiled (w .held .«data») (w .held .undo) (w .held .status) (w .desk) x ((eqb (getD (w .desk .statements) k 0) lastStatement, 14) ∷ []) ok in
         let b = firstOf-none (eqb (getD (w .desk .statements) k 0) lastStatement) 14 0 (λ z. omega arith) (a .1) in
-        let o = isOpen-open (w .desk) x (g .sound) (a .0 .passed .opened) in
+        let o = isOpen-open (w .desk) x (g .sound) (a .0 .admitted .passed .opened) in
         let less : getD (w .desk .statements) k 0 < 65535 = omega (arith, o .statement, eqb-false (getD (w .desk .statements) k 0) lastStatement (b .0)) in
         record {
           keeps = record {
@@ -65,9 +65,9 @@ module _ (w : World) (g : Good w) where
             stated = g .stated;
           };
           did = λ h y. (
-            found x (a .0 .passed .opened),
+            found x (a .0 .admitted .passed .opened),
             machine-ext (effect (seen w) (next x)) (seen (world (w .held) (moved k (w .desk)))) refl (λ n. refl)
-                (sym (moved-sessions (w .desk) (g .sound) (g .long) x (a .0 .passed .opened))) (λ r. refl),
+                (sym (moved-sessions (w .desk) (g .sound) (g .long) x (a .0 .admitted .passed .opened))) (λ r. refl),
           );
         }
 
@@ -77,9 +77,9 @@ module _ (w : World) (g : Good w) where
         → Goes w (Commit x) (response (done 0 0 []) (world (areas (w .held .«data») (w .held .undo) (putStatus x Committed (w .held .status))) (closed k (w .desk))))
     unfolding commitRefusal closed
     commits ok =
-        let a = accepts (w .held .«data») (w .held .undo) (w .held .status) (w .desk) x [] ok in
-        let o = isOpen-open (w .desk) x (g .sound) (a .0 .passed .opened) in
-        let page = admits-status (w .held .«data») (w .held .undo) (w .held .status) (w .desk) x k (a .0) in
+        let a = accepts-unspoiled (w .held .«data») (w .held .undo) (w .held .status) (w .desk) x [] ok in
+        let o = isOpen-open (w .desk) x (g .sound) (a .0 .admitted .passed .opened) in
+        let page = admits-status (w .held .«data») (w .held .undo) (w .held .status) (w .desk) x k (a .0 .admitted) in
         record {
           keeps = record {
             lengths = stay-allowed refl refl (length-putStatus x Committed (w .held .status)) (g .lengths);
@@ -93,10 +93,10 @@ module _ (w : World) (g : Good w) where
             stated = unreserved-status x Committed (w .held .status) (o .from) (omega (arith, o .last)) page refl (g .stated);
           };
           did = λ h y. (
-            found x (a .0 .passed .opened),
+            found x (a .0 .admitted .passed .opened),
             machine-ext (effect (seen w) (commit x)) (seen (world (areas (w .held .«data») (w .held .undo) (putStatus x Committed (w .held .status))) (closed k (w .desk)))) refl
                 (λ n. sym (standings-put x Committed (w .held .status) (o .from) (omega (arith, o .last)) page n))
-                (sym (closed-sessions (w .desk) (g .sound) (g .long) x (a .0 .passed .opened))) (λ r. refl),
+                (sym (closed-sessions (w .desk) (g .sound) (g .long) x (a .0 .admitted .passed .opened))) (λ r. refl),
           );
         }
 

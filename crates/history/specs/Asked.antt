@@ -10,7 +10,7 @@ use Rattle.little.specs.Little.{Bytes}
 use Rattle.kind.specs.Kind.{rows}
 use Rattle.records.specs.Slot.{slotAt, bodyAt}
 use Rattle.machine.specs.Table.{Body, History, hasWritten}
-use Rattle.machine.specs.Lines.{Call, format, opens, seal, begin, next, insert, update, delete, read, commit, withdraw, sweep, Verdict, refused, done, isDone, given, isFormat, isUpdate, isWrite, spares, historyOf}
+use Rattle.machine.specs.Lines.{Call, format, opens, seal, begin, next, insert, update, delete, read, commit, withdraw, sweep, Verdict, refused, done, isDone, given, isFormat, isUpdate, isWrite, spares, Line, historyOf}
 use Rattle.history.specs.World.{World, says, after, afterAll, linesOf}
 
 -- ---- the worlds that histories lead to
@@ -45,15 +45,18 @@ pub record Run : Type 0 where
   pub calls : List Call
   pub proper : AllProper calls
 
--- the world that the format left, the world in the end, and what the lines alone say happened in between
+-- the world that the format left, the world in the end, the lines in between, and what they alone say happened
 abbrev pub start : Run → World
 start x = after (x .before) (format (x .«data») (x .undo) (x .status))
 
 abbrev pub end : Run → World
 end x = afterAll (start x) (x .calls)
 
+abbrev pub lines : Run → List Line
+lines x = linesOf (start x) (x .calls)
+
 abbrev pub history : Run → History
-history x = historyOf (linesOf (start x) (x .calls))
+history x = historyOf (lines x)
 
 -- ---- calls
 

@@ -1,4 +1,5 @@
 pub mod World
+pub mod Spoiled
 pub mod Asked
 pub mod Theorems
 pub mod Observers

@@ -9,13 +9,15 @@ use mathlib.Core.Option.{none, some}
 use mathlib.Core.List.{List, [], _∷_, _++_}
 use Rattle.little.specs.Little.{Bytes}
 use Rattle.places.specs.Open.{isOpen}
+use Rattle.desk.specs.Turns.{isSpoiled}
 use Rattle.kind.specs.Kind.{rows}
 use Rattle.records.specs.Slot.{slotAt, bodyAt}
 use Rattle.rows.specs.Rows.{viewIn}
 use Rattle.machine.specs.Table.{Body, plainTable, openIn, statementOf, committedBefore, hasWritten}
-use Rattle.machine.specs.Lines.{Call, format, insert, update, read, withdraw, Verdict, refused, done, isDone, given, isWrite, spares, historyOf}
+use Rattle.machine.specs.Lines.{Call, format, begin, insert, update, delete, read, withdraw, Verdict, refused, done, isDone, given, isWrite, spares, Line, historyOf}
 use Rattle.machine.specs.Observers.{SomeFormat}
-use Rattle.history.specs.World.{World, says, after, afterAll, linesOf}
+use Rattle.history.specs.World.{World, says, after, marking, afterAll, linesOf}
+use Rattle.history.specs.Spoiled.{replaces, spoiledIn}
 use Rattle.history.specs.Asked.{Proper, AllProper, Run, start, end, history, noFormat, allSpare, bodyRead, Matches, Standing, isEmpty, standingIn, updates, Withdrawal, withdrawnWorld}
 
 -- ---- runs
@@ -109,3 +111,40 @@ UpdateAdds = (x y : Run) (n r : ℕ) (b : Body) → Further x (update n r b) y �
 abbrev pub NothingElseAdds : Type 0
 NothingElseAdds = (x y : Run) (c : Call) → Further x c y → (r : ℕ)
     → (updates y r ≤ updates x r) ⊎ ((isDone (says (end x) c) ≡ true) × ((n : ℕ) × (b : Body) × (c ≡ update n r b)))
+
+-- ---- sessions that lost a conflict
+
+-- the call is an update or a delete of session n
+abbrev pub Replaces : ℕ → Call → Type 0
+Replaces n c = ((r : ℕ) × (b : Body) × (c ≡ update n r b)) ⊎ ((r : ℕ) × (c ≡ delete n r))
+
+-- and those are the calls that `replaces` tells
+abbrev pub EveryReplaces : Type 0
+EveryReplaces = (n : ℕ) (c : Call) → (replaces n c ≡ true → Replaces n c) × (Replaces n c → replaces n c ≡ true)
+
+-- none of these lines is the begin that answered n
+abbrev pub NotBegun : ℕ → List Line → Type 0
+NotBegun n [] = Unit {0}
+NotBegun n (l ∷ ls) = ((b : ℕ) (y : Body) → l .call ≡ begin → l .answer ≡ done n b y → ⊥) × NotBegun n ls
+
+-- among these lines is an update or a delete of session n that was answered 10, and behind it no begin answered n
+pub record TenSince (n : ℕ) (ls : List Line) : Type 0 where
+  pub front : List Line
+  pub line : Line
+  pub back : List Line
+  pub are : ls ≡ front ++ (line ∷ back)
+  pub replacing : Replaces n (line .call)
+  pub answered : line .answer ≡ refused 10
+  pub since : NotBegun n back
+
+-- a session is spoiled exactly when some update or delete of it answered 10 since it began
+abbrev pub SpoiledExactly : Type 0
+SpoiledExactly = (n : ℕ) (ls : List Line) → (spoiledIn ls n ≡ true → TenSince n ls) × (TenSince n ls → spoiledIn ls n ≡ true)
+
+-- a world with an open session marked has the areas and of the desk all but the marks; there that session is spoiled, and of every other that
+-- is open it is as it was
+abbrev pub MarksAlone : Type 0
+MarksAlone = (x : Run) (n : ℕ) → openIn (history x) n ≡ true → let on = marking n (end x) in
+    (on .held ≡ end x .held) × (on .desk .next ≡ end x .desk .next) × (on .desk .numbers ≡ end x .desk .numbers)
+    × (on .desk .statements ≡ end x .desk .statements) × (on .desk .lists ≡ end x .desk .lists) × (isSpoiled n (on .desk) ≡ true)
+    × ((m : ℕ) → openIn (history x) m ≡ true → (m ≡ n → ⊥) → isSpoiled m (on .desk) ≡ isSpoiled m (end x .desk))

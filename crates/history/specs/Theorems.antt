@@ -3,12 +3,13 @@
 -- (specs/Lines.antt, specs/Table.antt) and nothing of its machine. Assumes nothing.
 use Prim.Native.Nat.{ℕ, suc, _≤_, _<_}
 use mathlib.Core.Path.{_≡_}
-use mathlib.Core.Bool.{true, false}
+use mathlib.Core.Bool.{true, false, not, _&&_}
 use mathlib.Core.Option.{none}
 use mathlib.Core.List.{List, []}
 use lib.ListN.{length}
 use Rattle.little.specs.Little.{Bytes}
 use Rattle.places.specs.Open.{openCount}
+use Rattle.desk.specs.Turns.{isSpoiled}
 use Rattle.kind.specs.Kind.{lengthsOk, rows, entries}
 use Rattle.records.specs.Entry.{entryAt}
 use Rattle.sight.specs.Sight.{sees}
@@ -16,8 +17,10 @@ use Rattle.doubt.specs.Doubt.{NoneReserved}
 use Rattle.rows.specs.Rows.{viewIn}
 use Rattle.machine.specs.Table.{Body, plainTable, openIn, committedBefore, hasWritten, numberTable, whenBegan, writesBefore, statementOf, play, mayWrite}
 use Rattle.machine.specs.Lines.{Call, format, opens, seal, begin, next, insert, update, delete, read, commit, withdraw, sweep, refused, done, isDone}
-use Rattle.history.specs.World.{World, says, after, afterAll}
-use Rattle.history.specs.Asked.{AllProper, Run, end, history, allSpare, bodyRead, Matches, isEmpty, standingIn, updates, Withdrawal, withdrawnWorld}
+use Rattle.history.specs.World.{World, says, after, marking, afterAll}
+use Rattle.history.specs.Spoiled.{replaces, spoiledIn}
+use Rattle.history.specs.Asked.{Proper, AllProper, Run, end, lines, history, allSpare, bodyRead, Matches, isEmpty, standingIn, updates, Withdrawal, withdrawnWorld}
+use Rattle.history.specs.Since.{formats}
 
 -- 1, READING: for every open session and every row, read answers a body exactly when the plain table has one, and then that body;
 -- otherwise it answers 7
@@ -95,9 +98,12 @@ SealedOpens = (x : Run) → isDone (says (end x) seal) ≡ true → says (after 
 abbrev pub Count : Type 0
 Count = (x : Run) (n r k j : ℕ) (b : Body) → says (end x) (read n r) ≡ done k j b → k ≤ suc (updates x r)
 
--- 6, REFUSED CALLS LEAVE THE WORLD AS IT WAS, whatever world it is
+-- 6, REFUSED CALLS LEAVE THE WORLD AS IT WAS, whatever world it is, but for the mark that a 10 of an update or delete sets ("02, T-07"), and
+-- then nothing but that mark
 abbrev pub RefusedLeaves : Type 0
-RefusedLeaves = (w : World) (c : Call) (n : ℕ) → says w c ≡ refused n → after w c ≡ w
+RefusedLeaves = (w : World) (c : Call) (n : ℕ) → says w c ≡ refused n
+    → ((n ≡ 10 → ⊥) → after w c ≡ w)
+    × (n ≡ 10 → (s : ℕ) × (replaces s c ≡ true) × (after w c ≡ marking s w))
 
 -- THE LAW UNDER THEM: S sees X exactly when X committed before S began
 abbrev pub SeesExactlyWhenCommittedBefore : Type 0
@@ -109,6 +115,25 @@ abbrev pub ByNumber : Type 0
 ByNumber = (x : Run) (n r : ℕ)
     → play (numberTable (whenBegan (history x) n)) (writesBefore (statementOf (history x) n) (history x) n) r ≡ plainTable (history x) n r
 
+-- ---- sessions that lost a conflict ("02, T-07")
+
+-- NO SESSION THAT WAS EVER ANSWERED 10 IS COMMITTED: where a line answers 10 to S, no later line of the same history commits S, whatever calls
+-- lie between them but an accepted format, which begins a history anew
+abbrev pub NeverCommitted : Type 0
+NeverCommitted = (x : Run) (n : ℕ) (c : Call) → Proper c → replaces n c ≡ true → says (end x) c ≡ refused 10
+    → (cs : List Call) → AllProper cs → formats (after (end x) c) cs ≡ false
+    → isDone (says (afterAll (after (end x) c) cs) (commit n)) ≡ false
+
+-- an open session is marked on the desk exactly where the lines alone say that it is spoiled
+abbrev pub SpoiledOnDesk : Type 0
+SpoiledOnDesk = (x : Run) (n : ℕ) → openIn (history x) n ≡ true → spoiledIn (lines x) n ≡ isSpoiled n (end x .desk)
+
+-- "insert, update, delete, next and commit answer 18" to an open session that is spoiled
+abbrev pub SpoiledRefused : Type 0
+SpoiledRefused = (x : Run) (n : ℕ) → openIn (history x) n ≡ true → spoiledIn (lines x) n ≡ true → (r : ℕ) (b : Body)
+    → (says (end x) (insert n b) ≡ refused 18) × (says (end x) (update n r b) ≡ refused 18) × (says (end x) (delete n r) ≡ refused 18)
+    × (says (end x) (next n) ≡ refused 18) × (says (end x) (commit n) ≡ refused 18)
+
 -- ---- no needless refusal
 
 -- a format is done where the lengths are allowed, whatever was there
@@ -119,32 +144,35 @@ Formats = (w : World) (d u s : List ℕ) → lengthsOk (length d) (length u) (le
 abbrev pub Begins : Type 0
 Begins = (x : Run) → openCount (end x .desk .numbers) < 16 → end x .desk .next < 32576 → isDone (says (end x) begin) ≡ true
 
--- next, of an open session whose statement by the history is below 65,535
+-- next, of an open session whose statement by the history is below 65,535, exactly where it is not spoiled
 abbrev pub Nexts : Type 0
-Nexts = (x : Run) (n : ℕ) → openIn (history x) n ≡ true → statementOf (history x) n < 65535 → isDone (says (end x) (next n)) ≡ true
+Nexts = (x : Run) (n : ℕ) → openIn (history x) n ≡ true → statementOf (history x) n < 65535
+    → isDone (says (end x) (next n)) ≡ not (spoiledIn (lines x) n)
 
 -- seal, where by the history no session is open
 abbrev pub Seals : Type 0
 Seals = (x : Run) → ((n : ℕ) → openIn (history x) n ≡ false) → isDone (says (end x) seal) ≡ true
 
--- an insert of 32 bytes by an open session, where a row is empty
+-- an insert of 32 bytes by an open session, where a row is empty, exactly where the session is not spoiled
 abbrev pub Inserts : Type 0
 Inserts = (x : Run) (n : ℕ) → openIn (history x) n ≡ true → (b : Body) → length b ≡ 32 → (r : ℕ) → r < rows (end x .held .«data») → isEmpty (end x) r ≡ true
-    → isDone (says (end x) (insert n b)) ≡ true
+    → isDone (says (end x) (insert n b)) ≡ not (spoiledIn (lines x) n)
 
--- a delete by an open session is done exactly where the history alone says that it may write the row: the row's last write that was not
--- withdrawn gave it a body, and is of a session that committed before, or its own of an earlier statement
+-- a delete by an open session is done exactly where it is not spoiled and the history alone says that it may write the row: the row's last
+-- write that was not withdrawn gave it a body, and is of a session that committed before, or its own of an earlier statement
 abbrev pub Deletes : Type 0
-Deletes = (x : Run) (n : ℕ) → openIn (history x) n ≡ true → (r : ℕ) → isDone (says (end x) (delete n r)) ≡ mayWrite (history x) n r
+Deletes = (x : Run) (n : ℕ) → openIn (history x) n ≡ true → (r : ℕ)
+    → isDone (says (end x) (delete n r)) ≡ (not (spoiledIn (lines x) n) && mayWrite (history x) n r)
 
 -- and so is an update of 32 bytes, where an entry is free
 abbrev pub Updates : Type 0
 Updates = (x : Run) (n : ℕ) → openIn (history x) n ≡ true → (b : Body) → length b ≡ 32 → (e : ℕ) → e < entries (end x .held .undo) → entryAt e (end x .held .undo) .writer ≡ 0
-    → (r : ℕ) → isDone (says (end x) (update n r b)) ≡ mayWrite (history x) n r
+    → (r : ℕ) → isDone (says (end x) (update n r b)) ≡ (not (spoiledIn (lines x) n) && mayWrite (history x) n r)
 
--- commit and withdraw of an open session
+-- commit of an open session exactly where it is not spoiled, and withdraw of any
 abbrev pub Ends : Type 0
-Ends = (x : Run) (n : ℕ) → openIn (history x) n ≡ true → (isDone (says (end x) (commit n)) ≡ true) × (isDone (says (end x) (withdraw n)) ≡ true)
+Ends = (x : Run) (n : ℕ) → openIn (history x) n ≡ true
+    → (isDone (says (end x) (commit n)) ≡ not (spoiledIn (lines x) n)) × (isDone (says (end x) (withdraw n)) ≡ true)
 
 -- a sweep from any row on
 abbrev pub Sweeps : Type 0

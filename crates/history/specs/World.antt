@@ -4,7 +4,9 @@ use Prim.Native.Nat.{ℕ}
 use mathlib.Core.Bool.{cond}
 use mathlib.Core.List.{List, [], _∷_}
 use Rattle.ground.specs.Refuse.{settle}
+use Rattle.places.specs.Open.{placeIn}
 use Rattle.desk.specs.declared.Desk.{Desk}
+use Rattle.desk.specs.Turns.{spoiled}
 use Rattle.kind.specs.Areas.{Areas, areas}
 use Rattle.calls.specs.Calls.{Left, body, formatLeaves, openLeaves, sealLeaves, beginLeaves, nextLeaves, insertLeaves, updateLeaves, deleteLeaves, readLeaves, commitLeaves, withdrawLeaves, sweepLeaves}
 use Rattle.machine.specs.Table.{Body}
@@ -63,6 +65,10 @@ says w c = step w c .answer
 
 abbrev pub after : World → Call → World
 after w c = step w c .left
+
+-- the world in which session n is marked spoiled, and nothing else is changed ("02, T-07")
+abbrev pub marking : ℕ → World → World
+marking n w = world (w .held) (spoiled (placeIn n (w .desk .numbers)) (w .desk))
 
 -- ---- histories
 

@@ -11,7 +11,7 @@ use lib.Dec.{eqb, leb, leb·suc-zero, eqb·suc-zero}
 use borrow.Author.Tests.{ne-eqb}
 use Rattle.ground.specs.Range.{allBelow}
 use Rattle.ground.proofs.Ranges.{all-at, all-intro, and-mix}
-use Rattle.columns.specs.Limits.{sessions, members, places, lastStatement}
+use Rattle.columns.specs.Limits.{sessions, members, places, lastStatement, spoiledMark}
 use Rattle.places.specs.Places.{placed, ascending, sessionSound}
 use Rattle.places.proofs.Runs.{unused-none, unused-suc, unused-split, unused-at, behind}
 
@@ -19,21 +19,21 @@ leb-zero : (n : ℕ) → leb n 0 ≡ eqb n 0
 leb-zero zero = refl
 leb-zero (suc n) = leb·suc-zero n ∙ sym (eqb·suc-zero n)
 
-module _ (numbers statements lists : List ℕ) (k : ℕ) where
+module _ (numbers statements marks lists : List ℕ) (k : ℕ) where
   pub session-unused : getD numbers k 0 ≡ 0
-      → sessionSound numbers statements lists k ≡ (eqb (getD statements k 0) 0 && ascending 0 lists (k * members) members)
+      → sessionSound numbers statements marks lists k ≡ (eqb (getD statements k 0) 0 && eqb (getD marks k 0) 0 && ascending 0 lists (k * members) members)
   unfolding sessionSound
-  session-unused e = rw (e, leb-zero)
+  session-unused e = rw (e, leb-zero (getD statements k 0), leb-zero (getD marks k 0))
 
   pub session-open : (getD numbers k 0 ≡ 0 → ⊥)
-      → sessionSound numbers statements lists k
-      ≡ (leb (getD statements k 0) lastStatement && ascending (getD numbers k 0) lists (k * members) members)
+      → sessionSound numbers statements marks lists k
+      ≡ (leb (getD statements k 0) lastStatement && leb (getD marks k 0) spoiledMark && ascending (getD numbers k 0) lists (k * members) members)
   unfolding sessionSound
   session-open u = rw (ne-eqb (getD numbers k 0) 0 u)
 
 -- ---- where place k is the first unused one
 
-module _ (numbers statements lists : List ℕ) (k : ℕ) where
+module _ (numbers statements marks lists : List ℕ) (k : ℕ) where
   -- no place behind an unused one has a number
   numbers-behind : (next : ℕ) → ascending next numbers 0 sessions ≡ true → k < sessions → getD numbers k 0 ≡ 0
       → (m : ℕ) → k + m < sessions → getD numbers (k + m) 0 ≡ 0
@@ -55,39 +55,39 @@ module _ (numbers statements lists : List ℕ) (k : ℕ) where
           ∙ asc
 
   -- m more places, none of them open
-  sessions-behind : allBelow (sessionSound numbers statements lists) k ≡ true
+  sessions-behind : allBelow (sessionSound numbers statements marks lists) k ≡ true
       → (m : ℕ)
       → ((i : ℕ) → i < m → getD numbers (k + i) 0 ≡ 0)
-      → allBelow (sessionSound numbers statements lists) (k + m) ≡ (ascending 0 statements k m && ascending 0 lists (k * members) (m * members))
+      → allBelow (sessionSound numbers statements marks lists) (k + m) ≡ (ascending 0 statements k m && ascending 0 marks k m && ascending 0 lists (k * members) (m * members))
   unfolding allBelow
   sessions-behind sound zero none =
-      ap (allBelow (sessionSound numbers statements lists)) (add-zero k)
+      ap (allBelow (sessionSound numbers statements marks lists)) (add-zero k)
       ∙ sound
-      ∙ sym (ap₂ (λ (a b : Bool). a && b) (unused-none statements k) (unused-none lists (k * members)))
+      ∙ sym (ap₂ _&&_ (ap₂ _&&_ (unused-none statements k) (unused-none marks k)) (unused-none lists (k * members)))
   sessions-behind sound (suc m) none =
       let place : k * members + m * members ≡ (k + m) * members = omega arith in
       let more : m * members + members ≡ suc m * members = omega arith in
-      ap (allBelow (sessionSound numbers statements lists)) (add-suc k m)
+      ap (allBelow (sessionSound numbers statements marks lists)) (add-suc k m)
       ∙ ap₂ (λ (a b : Bool). a && b)
       (sessions-behind sound m (λ i l. none i (omega arith)))
-      (session-unused numbers statements lists (k + m) (none m (omega arith)))
-      ∙ and-mix (ascending 0 statements k m) (ascending 0 lists (k * members) (m * members)) _ _
+      (session-unused numbers statements marks lists (k + m) (none m (omega arith)))
+      ∙ and-mix (ascending 0 statements k m && ascending 0 marks k m) (ascending 0 lists (k * members) (m * members)) _ _
       ∙ ap₂ (λ (a b : Bool). a && b)
-      (sym (unused-suc statements k m))
+      (and-mix (ascending 0 statements k m) (ascending 0 marks k m) _ _ ∙ ap₂ _&&_ (sym (unused-suc statements k m)) (sym (unused-suc marks k m)))
       (ap (λ (i : ℕ). ascending 0 lists (k * members) (m * members) && ascending 0 lists i members) (sym place)
       ∙ sym (unused-split lists (k * members) (m * members) members)
       ∙ ap (ascending 0 lists (k * members)) more)
 
-  -- the statements and the lists from there on are unused
+  -- the statements, the marks and the lists from there on are unused
   pub sessions-rest : (next : ℕ) → ascending next numbers 0 sessions ≡ true
-      → allBelow (sessionSound numbers statements lists) k ≡ true
+      → allBelow (sessionSound numbers statements marks lists) k ≡ true
       → k < sessions
       → getD numbers k 0 ≡ 0
-      → allBelow (sessionSound numbers statements lists) sessions
-      ≡ (ascending 0 statements k (sessions - k) && ascending 0 lists (k * members) (places - k * members))
+      → allBelow (sessionSound numbers statements marks lists) sessions
+      ≡ (ascending 0 statements k (sessions - k) && ascending 0 marks k (sessions - k) && ascending 0 lists (k * members) (places - k * members))
   sessions-rest next asc sound h e =
       let all : k + (sessions - k) ≡ sessions = omega arith in
       let wide : (sessions - k) * members ≡ places - k * members = omega arith in
-      ap (allBelow (sessionSound numbers statements lists)) (sym all)
+      ap (allBelow (sessionSound numbers statements marks lists)) (sym all)
       ∙ sessions-behind sound (sessions - k) (λ i l. numbers-behind next asc h e i (omega arith))
-      ∙ ap (λ (n : ℕ). ascending 0 statements k (sessions - k) && ascending 0 lists (k * members) n) wide
+      ∙ ap (λ (n : ℕ). ascending 0 statements k (sessions - k) && ascending 0 marks k (sessions - k) && ascending 0 lists (k * members) n) wide

@@ -6,7 +6,7 @@ use mathlib.Core.List.{List}
 use lib.ListN.{getD}
 use lib.Dec.{eqb, leb, ltb}
 use Rattle.ground.specs.Range.{allBelow}
-use Rattle.columns.specs.Limits.{members, lastStatement}
+use Rattle.columns.specs.Limits.{members, lastStatement, spoiledMark}
 
 -- of a run of places of l that starts at `at`: the number at place i follows the one before it, which is no unused place
 unfoldable pub follows : List ℕ → ℕ → ℕ → Bool
@@ -22,8 +22,10 @@ unfoldable pub ascending : ℕ → List ℕ → ℕ → ℕ → Bool
 ascending top l at n = allBelow (placed top l at) n
 
 -- place k: "its statement (0 to 65,535) and the numbers open when it began: at most 15, ascending, below its own".
--- Below the number 0 there is none: the list of an unused place is zero, and so is its statement
-unfoldable pub sessionSound : List ℕ → List ℕ → List ℕ → ℕ → Bool
-sessionSound numbers statements lists k =
+-- Below the number 0 there is none: the list of an unused place is zero, and so are its statement and its mark, which is 0 or 1 elsewhere
+-- ("02, T-07")
+unfoldable pub sessionSound : List ℕ → List ℕ → List ℕ → List ℕ → ℕ → Bool
+sessionSound numbers statements marks lists k =
     leb (getD statements k 0) (cond (eqb (getD numbers k 0) 0) 0 lastStatement)
+    && leb (getD marks k 0) (cond (eqb (getD numbers k 0) 0) 0 spoiledMark)
     && ascending (getD numbers k 0) lists (k * members) members

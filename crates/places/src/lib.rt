@@ -98,16 +98,17 @@ fn ascends(top: u32, places: &[u32], at: usize, n: usize) -> bool
 }
 
 // Whether the numbers ascend and each of the 16 places is sound, open or unused: "its statement (0 to 65,535) and the numbers open when
-// it began: at most 15, ascending, below its own". Behind the first unused place there is no session, so that all statements and
-// lists behind it are zero.
+// it began: at most 15, ascending, below its own", and its mark 0 or 1. Behind the first unused place there is no session, so that all
+// statements, marks and lists behind it are zero.
 pub fn sessions_sound<'a>(
     next: u32,
     numbers: &'a [u32],
     statements: &'a [u32],
+    marks: &'a [u32],
     lists: &'a [u32],
 ) -> bool
-    requires { ⌜ (length (now numbers) ≡ sessions) × (length (now statements) ≡ sessions) × (length (now lists) ≡ all-places) ⌝ }
-    ensures { λ r. ⌜ r ≡ (ascending next (now (numbers .entry)) 0 sessions && allBelow (sessionSound (now (numbers .entry)) (now (statements .entry)) (now (lists .entry))) sessions) ⌝ }
+    requires { ⌜ (length (now numbers) ≡ sessions) × (length (now statements) ≡ sessions) × (length (now marks) ≡ sessions) × (length (now lists) ≡ all-places) ⌝ }
+    ensures { λ r. ⌜ r ≡ (ascending next (now (numbers .entry)) 0 sessions && allBelow (sessionSound (now (numbers .entry)) (now (statements .entry)) (now (marks .entry)) (now (lists .entry))) sessions) ⌝ }
 {
     if !ascends(next, numbers, 0, Limits::SESSIONS) {
         return false;
@@ -117,9 +118,11 @@ pub fn sessions_sound<'a>(
         let number = numbers[k];
         let at = k * Limits::MEMBERS;
         if number == 0 {
-            return unused(statements, k, Limits::SESSIONS) & unused(lists, at, Limits::PLACES);
+            return unused(statements, k, Limits::SESSIONS)
+                & unused(marks, k, Limits::SESSIONS)
+                & unused(lists, at, Limits::PLACES);
         }
-        let fits = statements[k] <= Limits::LAST_STATEMENT;
+        let fits = (statements[k] <= Limits::LAST_STATEMENT) & (marks[k] <= Limits::SPOILED);
         if !(fits & ascends(number, lists, at, Limits::MEMBERS)) {
             return false;
         }

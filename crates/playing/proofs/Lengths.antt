@@ -30,8 +30,8 @@ module _ (a : Areas) (d : Desk) (x y : ℕ) (body : List ℕ) where
   played-most Begin = answer-length-numbered (beginRule a d .0 .0) (beginRule a d .0 .1)
   played-most Next = answer-length-plain (nextRule a d x .0)
   played-most Insert = answer-length-numbered (insertRule a d x body .0 .0) (insertRule a d x body .0 .1)
-  played-most Update = answer-length-plain (updateRule a d x y body .0)
-  played-most Delete = answer-length-plain (deleteRule a d x y .0)
+  played-most Update = answer-length-plain (updateRule a d x y body .0 .0)
+  played-most Delete = answer-length-plain (deleteRule a d x y .0 .0)
   played-most Read =
       let place = readRule a d x y .1 in
       answer-length-bodied (readRule a d x y .0) (readRule a d x y .2) (bodyOf place (a .«data») (a .undo)) (body-most place (a .«data») (a .undo))

@@ -175,8 +175,9 @@ fn update(
     requires { ⌜ at + longest ≤ length (now out) ⌝ }
     ensures { λ r. ⌜ Plays Update (updateLeaves (areas (now («data» .entry)) (now (undo .entry)) (now (status .entry))) desk session row (now (body .entry))) at (now (out .entry)) r (areas (now («data» .exit)) (now (undo .exit)) (now (status .entry))) (now (out .exit)) ⌝ }
 {
-    let w = words::words_of(desk);
-    let a = rows::update(data, undo, status, &w, session, row, body);
+    let mut w = words::words_of(desk);
+    let a = rows::update(data, undo, status, &mut w, session, row, body);
+    let desk = desk_left(&w);
     let code = answer::code(a);
     let end = reply::plain(out, at, code);
     Played { code, desk, end }
@@ -195,8 +196,9 @@ fn delete<'a>(
     requires { ⌜ at + longest ≤ length (now out) ⌝ }
     ensures { λ r. ⌜ Plays Delete (deleteLeaves (areas (now («data» .entry)) (now (undo .entry)) (now (status .entry))) desk session row) at (now (out .entry)) r (areas (now («data» .exit)) (now (undo .entry)) (now (status .entry))) (now (out .exit)) ⌝ }
 {
-    let w = words::words_of(desk);
-    let a = rows::delete(data, undo, status, &w, session, row);
+    let mut w = words::words_of(desk);
+    let a = rows::delete(data, undo, status, &mut w, session, row);
+    let desk = desk_left(&w);
     let code = answer::code(a);
     let end = reply::plain(out, at, code);
     Played { code, desk, end }

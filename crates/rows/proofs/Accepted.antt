@@ -26,7 +26,7 @@ use Rattle.chain.specs.declared.Walk.the-variants.{Found, Absent, Broken}
 use Rattle.chain.specs.Chain.{ended, onto, chainOf}
 use Rattle.chain.specs.Walk.{walkRule, bodyOf}
 use Rattle.chain.proofs.Walks.{walk-body}
-use Rattle.admit.proofs.Admissions.{Admits, accepts, admits-from, admits-session, admits-statement, admits-lent}
+use Rattle.admit.proofs.Admissions.{Admits, accepts, accepts-unspoiled, admits-from, admits-session, admits-statement, admits-lent}
 use Rattle.vacant.specs.Vacant.{lowestEmpty, lowestFree}
 use Rattle.vacant.proofs.Vacants.{lowestEmpty-lt, lowestFree-lt, lowestFree-free}
 use Rattle.doubt.specs.Doubt.{doubts}
@@ -35,7 +35,7 @@ use Rattle.seeking.proofs.Seekings.{Writable, reading, writing, write-passed}
 use Rattle.writing.specs.Writing.{made, expired, inserted, updatedData, updatedUndo, deleted}
 use Rattle.versions.specs.Versions.{older, Fits, Takes}
 use Rattle.versions.proofs.Versions.{chainOf-inserted-other, chainOf-inserted-own, chainOf-deleted-other, chainOf-deleted-own, chainOf-updated-other, chainOf-updated-own}
-use Rattle.rows.specs.Rows.{viewIn, badBody, insertRefusal, insertRule, updateRefusal, updated, updateRule, deleteRefusal, deleteRule, seenBy, readRefusal, readRule}
+use Rattle.rows.specs.Rows.{viewIn, badBody, refusedDesk, insertRefusal, insertRule, updateRefusal, updated, updateRule, deleteRefusal, deleteRule, seenBy, readRefusal, readRule}
 use Rattle.rows.proofs.Calls.{small-number, updateRoom, updateRest}
 
 -- what is done where nothing is refused
@@ -74,11 +74,11 @@ module _ (d u s : List ℕ) (desk : Desk) (x : ℕ) where
     pub inserts : Inserts
     unfolding insertRefusal
     inserts =
-        let a = accepts d u s desk x ((badBody body, 5) ∷ (eqb (lowestEmpty d) (rows d), 11) ∷ []) ok in
+        let a = accepts-unspoiled d u s desk x ((badBody body, 5) ∷ (eqb (lowestEmpty d) (rows d), 11) ∷ []) ok in
         let b = firstOf-none (badBody body) 5 _ (λ z. omega arith) (a .1) in
         let r = firstOf-none (eqb (lowestEmpty d) (rows d)) 11 _ (λ z. omega arith) (b .1) in
         record {
-          session = a .0;
+          session = a .0 .admitted;
           long = eqb-true (length body) 32 (not-false _ (b .0));
           room = lowestEmpty-lt d (eqb-false (lowestEmpty d) (rows d) (r .0));
         }
@@ -110,21 +110,21 @@ module _ (d u s : List ℕ) (desk : Desk) (x : ℕ) where
     pub deletes : Deletes
     unfolding deleteRefusal writeRefusal
     deletes =
-        let a = accepts d u s desk x (writing d u s (viewIn desk x) r []) ok in
-        record { session = a .0; writable = write-passed d u s (viewIn desk x) r (a .1) }
+        let a = accepts-unspoiled d u s desk x (writing d u s (viewIn desk x) r []) ok in
+        record { session = a .0 .admitted; writable = write-passed d u s (viewIn desk x) r (a .1) }
 
-    pub delete-does : deleteRule (areas d u s) desk x r ≡ (0, deleted x statement r d)
+    pub delete-does : deleteRule (areas d u s) desk x r ≡ ((0, desk), deleted x statement r d)
     unfolding deleteRule
-    delete-does = done-is (deleteRefusal (areas d u s) desk x r) (0, deleted x statement r d) (λ (n : ℕ). (n, d)) ok
+    delete-does = done-is (deleteRefusal (areas d u s) desk x r) ((0, desk), deleted x statement r d) (λ (n : ℕ). ((n, refusedDesk n x desk), d)) ok
 
     pub delete-others : (t : ℕ) → (t ≡ r → ⊥) → chainOf (deleteRule (areas d u s) desk x r .1) u t ≡ chainOf d u t
-    delete-others t ne = ap (λ (y : ℕ × List ℕ). chainOf (y .1) u t) delete-does ∙ chainOf-deleted-other x statement r d u t ne
+    delete-others t ne = ap (λ (y : (ℕ × Desk) × List ℕ). chainOf (y .1) u t) delete-does ∙ chainOf-deleted-other x statement r d u t ne
 
     -- the row's is the old one with the expirer set
     pub delete-own : Bytes d
         → chainOf (deleteRule (areas d u s) desk x r .1) u r ≡ onto (record { place = Data r; slot = expired x statement (slotAt r d) }) (older (chainOf d u r))
     delete-own bytes =
-        ap (λ (y : ℕ × List ℕ). chainOf (y .1) u r) delete-does
+        ap (λ (y : (ℕ × Desk) × List ℕ). chainOf (y .1) u r) delete-does
         ∙ chainOf-deleted-own x statement r d u (fits (deletes .session) r (deletes .writable .inside) bytes) (deletes .writable .occupied)
 
   -- ---- update
@@ -151,22 +151,22 @@ module _ (d u s : List ℕ) (desk : Desk) (x : ℕ) where
     pub updates : Updates
     unfolding updateRefusal
     updates =
-        let a = accepts d u s desk x (rest (noRow d r || badBody body)) ok in
+        let a = accepts-unspoiled d u s desk x (rest (noRow d r || badBody body)) ok in
         let b = firstOf-none (noRow d r || badBody body) 5 _ (λ z. omega arith) (a .1) in
         let row : noRow d r ≡ false = or-false-left (noRow d r) (badBody body) (b .0) in
         let all : firstOf (writing d u s (viewIn desk x) r full) ≡ 0 = ap (λ (t : Bool). firstOf (rest t)) (row ∙ sym (b .0)) ∙ a .1 in
         let w = write-passed d u s (viewIn desk x) r (asked (writeRefusal d u s (viewIn desk x) r) refl all) in
         let f = firstOf-none (eqb (lowestFree u) (entries u)) 11 _ (λ z. omega arith) (sym (w .passed full) ∙ all) in
         record {
-          session = a .0;
+          session = a .0 .admitted;
           long = eqb-true (length body) 32 (not-false _ (or-false-right (noRow d r) (badBody body) (b .0)));
           writable = w;
           room = lowestFree-lt u (eqb-false (lowestFree u) (entries u) (f .0));
         }
 
-    pub update-does : updateRule (areas d u s) desk x r body ≡ (0, updated (areas d u s) desk x r body)
+    pub update-does : updateRule (areas d u s) desk x r body ≡ ((0, desk), updated (areas d u s) desk x r body)
     unfolding updateRule
-    update-does = done-is (updateRefusal (areas d u s) desk x r body) (0, updated (areas d u s) desk x r body) (λ (n : ℕ). (n, areas d u s)) ok
+    update-does = done-is (updateRefusal (areas d u s) desk x r body) ((0, desk), updated (areas d u s) desk x r body) (λ (n : ℕ). ((n, refusedDesk n x desk), areas d u s)) ok
 
     -- the entry taken is free, and all numbers are small
     pub takes : Takes r (lowestFree u) u
@@ -190,7 +190,7 @@ module _ (d u s : List ℕ) (desk : Desk) (x : ℕ) where
 
       became : (t : ℕ) → chainOf (after .«data») (after .undo) t ≡ chainOf (updatedData x statement r e body d) (updatedUndo x statement r e d u) t
       unfolding updated
-      became t = ap (λ (y : ℕ × Areas). chainOf (y .1 .«data») (y .1 .undo) t) update-does
+      became t = ap (λ (y : (ℕ × Desk) × Areas). chainOf (y .1 .«data») (y .1 .undo) t) update-does
 
       pub update-others : (t : ℕ) → (t ≡ r → ⊥) → chainOf (after .«data») (after .undo) t ≡ chainOf d u t
       update-others t ne =

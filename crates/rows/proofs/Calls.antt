@@ -1,6 +1,6 @@
 -- The rules of insert, update, delete and read, case by case. Assumes nothing.
 use mathlib.Core.Path.{_≡_, refl, sym, ap, ap₂, _∙_}
-use mathlib.Core.Bool.{Bool, _||_, or-true, or-false}
+use mathlib.Core.Bool.{Bool, false, _||_, or-true, or-false, cond}
 use mathlib.Core.List.{List, [], _∷_}
 use Prim.Native.Nat.{ℕ, zero, suc, _*_, _<_, _≤_, _^_}
 use native.Mathlib.Nat.{mul-le-mul}
@@ -13,7 +13,8 @@ use Rattle.answer.specs.declared.Answer.{Answer}
 use Rattle.answer.specs.Code.{codeOf}
 use Rattle.desk.specs.declared.Desk.{Desk}
 use Rattle.desk.specs.View.{View}
-use Rattle.desk.specs.Turns.{viewAt}
+use Rattle.places.specs.Open.{placeIn}
+use Rattle.desk.specs.Turns.{viewAt, spoiled}
 use Rattle.columns.specs.Columns.{usedOf}
 use Rattle.sessions.proofs.Lists.{list-unused}
 use Rattle.sight.specs.Sight.{viewOf}
@@ -25,6 +26,7 @@ use Rattle.chain.specs.declared.Place.the-variants.{Nowhere}
 use Rattle.chain.specs.Walk.{walkRule}
 use Rattle.admit.specs.declared.Admitted.the-variants.{Refused}
 use Rattle.admit.proofs.Admissions.{Admits, admission, refuses, goes-on, admits-at, admits-place, admits-number, admits-sound}
+use Rattle.admit.proofs.Admissions.{Unspoiled, unspoiledAdmission, refuses-unspoiled, refuses-calm, goes-past}
 use Rattle.vacant.specs.Vacant.{lowestEmpty, lowestFree}
 use Rattle.vacant.proofs.Vacants.{lowestEmpty-lt, lowestFree-lt}
 use Rattle.doubt.specs.Doubt.{doubts}
@@ -33,7 +35,7 @@ use Rattle.seeking.specs.declared.Sought.the-variants.{Found, Refused as Unfoun
 use Rattle.seeking.specs.Seeking.{noRow, breaks, misses, says, seekRule, writeRefusal}
 use Rattle.seeking.proofs.Seekings.{reading, writing, seek-refused, seek-passed, seek-walk, write-refused, write-passed, front-seek, front-write}
 use Rattle.writing.specs.Writing.{inserted, updatedData, updatedUndo, deleted}
-use Rattle.rows.specs.Rows.{viewIn, badBody, insertRefusal, insertRule, updateRefusal, updated, updateRule, deleteRefusal, deleteRule, seenBy, readRefusal, readRule}
+use Rattle.rows.specs.Rows.{viewIn, badBody, refusedDesk, insertRefusal, insertRule, updateRefusal, updated, updateRule, deleteRefusal, deleteRule, seenBy, readRefusal, readRule}
 
 -- ---- what the session admitted at place k sees by, as the words lend it: t is its statement, l are the used places of its list
 
@@ -90,14 +92,14 @@ module _ (d u s : List ℕ) (desk : Desk) (x : ℕ) (body : List ℕ) where
   abbrev insertNo : ℕ → (ℕ × ℕ) × List ℕ
   insertNo n = ((n, 0), d)
 
-  pub insert-refused : (n : Answer) → admission d u s desk x ≡ Refused n → insertRule (areas d u s) desk x body ≡ insertNo (codeOf n)
+  pub insert-refused : (n : Answer) → unspoiledAdmission d u s desk x ≡ Refused n → insertRule (areas d u s) desk x body ≡ insertNo (codeOf n)
   unfolding insertRule insertRefusal
-  insert-refused n e = refuses d u s desk x n insertRest (insertDone (viewIn desk x .statement)) insertNo e
+  insert-refused n e = refuses-unspoiled d u s desk x n insertRest (insertDone (viewIn desk x .statement)) insertNo e
 
-  module _ (k : ℕ) (a : Admits d u s desk x k) where
+  module _ (k : ℕ) (a : Unspoiled d u s desk x k) where
     insert-on : insertRule (areas d u s) desk x body ≡ settle (firstOf insertRest) (insertDone (viewIn desk x .statement)) insertNo
     unfolding insertRule insertRefusal
-    insert-on = goes-on d u s desk x k a insertRest (insertDone (viewIn desk x .statement)) insertNo
+    insert-on = goes-past d u s desk x k a insertRest (insertDone (viewIn desk x .statement)) insertNo
 
     pub insert-5 : (length body ≡ 32 → ⊥) → insertRule (areas d u s) desk x body ≡ insertNo 5
     insert-5 h = insert-on ∙ rw (ne-eqb (length body) 32 h)
@@ -111,9 +113,27 @@ module _ (d u s : List ℕ) (desk : Desk) (x : ℕ) (body : List ℕ) where
       insert-0 {r} {m} {t} {y} is all h at put =
           insert-on
           ∙ rw (eq-eqb (length body) 32 long, ne-eqb (lowestEmpty d) (rows d) (λ (e : lowestEmpty d ≡ rows d). h (is ∙ e ∙ sym all)))
-          (ap insertDone (statement-in d u s desk x k a at)
+          (ap insertDone (statement-in d u s desk x k (a .admitted) at)
           ∙ ap (λ (i : ℕ). ((0, i), inserted x t i body d)) (sym is)
           ∙ ap (λ (l : List ℕ). ((0, r), l)) (sym put))
+
+-- ---- what a refused write leaves of the desk
+
+-- nothing is marked but by a 10
+pub desk-calm : (n x : ℕ) (desk : Desk) → eqb n 10 ≡ false → refusedDesk n x desk ≡ desk
+unfolding refusedDesk
+desk-calm n x desk e = rw e refl
+
+-- a 10 marks the session at its place: r is the answer handed on, and y the desk left
+pub desk-told : (d u s : List ℕ) (desk : Desk) (x k : ℕ) → Unspoiled d u s desk x k → {r n : Answer} {y : Desk} → r ≡ n
+    → y ≡ cond (eqb (codeOf n) 10) (spoiled k desk) desk
+    → _≡_ {A = ℕ × Desk} (codeOf r, y) (codeOf n, refusedDesk (codeOf n) x desk)
+unfolding refusedDesk
+desk-told d u s desk x k a {r} {n} {y} e f =
+    let there : y ≡ cond (eqb (codeOf n) 10) (spoiled (placeIn x (desk .numbers)) desk) desk =
+    f ∙ ap (λ (i : ℕ). cond (eqb (codeOf n) 10) (spoiled i desk) desk) (admits-at d u s desk x k (a .admitted))
+    in
+    λ i. (codeOf (e i), there i)
 
 -- ---- a write to a row: m is what was asked of it and answered
 
@@ -135,32 +155,34 @@ module _ (d u s : List ℕ) (desk : Desk) (x r : ℕ) where
   abbrev deleteRest : List (Bool × ℕ)
   deleteRest = writing d u s (viewIn desk x) r []
 
-  abbrev deleteDone : ℕ → ℕ × List ℕ
-  deleteDone t = (0, deleted x t r d)
+  abbrev deleteDone : ℕ → (ℕ × Desk) × List ℕ
+  deleteDone t = ((0, desk), deleted x t r d)
 
-  abbrev deleteNo : ℕ → ℕ × List ℕ
-  deleteNo n = (n, d)
+  abbrev deleteNo : ℕ → (ℕ × Desk) × List ℕ
+  deleteNo n = ((n, refusedDesk n x desk), d)
 
-  pub delete-refused : (n : Answer) → admission d u s desk x ≡ Refused n → deleteRule (areas d u s) desk x r ≡ deleteNo (codeOf n)
+  pub delete-refused : (n : Answer) → unspoiledAdmission d u s desk x ≡ Refused n → deleteRule (areas d u s) desk x r ≡ ((codeOf n, desk), d)
   unfolding deleteRule deleteRefusal
-  delete-refused n e = refuses d u s desk x n deleteRest (deleteDone (viewIn desk x .statement)) deleteNo e
+  delete-refused n e =
+      refuses-unspoiled d u s desk x n deleteRest (deleteDone (viewIn desk x .statement)) deleteNo e
+      ∙ ap (λ (k : Desk). ((codeOf n, k), d)) (desk-calm (codeOf n) x desk (refuses-calm d u s desk x n e))
 
-  module _ (k : ℕ) (a : Admits d u s desk x k) where
+  module _ (k : ℕ) (a : Unspoiled d u s desk x k) where
     delete-on : deleteRule (areas d u s) desk x r ≡ settle (firstOf deleteRest) (deleteDone (viewIn desk x .statement)) deleteNo
     unfolding deleteRule deleteRefusal
-    delete-on = goes-on d u s desk x k a deleteRest (deleteDone (viewIn desk x .statement)) deleteNo
+    delete-on = goes-past d u s desk x k a deleteRest (deleteDone (viewIn desk x .statement)) deleteNo
 
     module _ {t : ℕ} {l : List ℕ} {m : ℕ} (at : t ≡ getD (desk .statements) k 0) (lent : l ≡ usedOf (viewAt k desk .list)) (asked : m ≡ writeRefusal d u s (viewOf x t l) r) where
       pub delete-no : (m ≡ 0 → ⊥) → deleteRule (areas d u s) desk x r ≡ deleteNo m
       delete-no h =
           delete-on
-          ∙ write-no d u s (viewIn desk x) r [] (deleteDone (viewIn desk x .statement)) deleteNo m (asked-in d u s desk x k a at lent r asked) h
+          ∙ write-no d u s (viewIn desk x) r [] (deleteDone (viewIn desk x .statement)) deleteNo m (asked-in d u s desk x k (a .admitted) at lent r asked) h
 
       pub delete-0 : m ≡ 0 → deleteRule (areas d u s) desk x r ≡ deleteDone t
       delete-0 h =
           delete-on
-          ∙ write-on d u s (viewIn desk x) r [] (deleteDone (viewIn desk x .statement)) deleteNo (asked-in d u s desk x k a at lent r asked ∙ h)
-          ∙ ap deleteDone (statement-in d u s desk x k a at)
+          ∙ write-on d u s (viewIn desk x) r [] (deleteDone (viewIn desk x .statement)) deleteNo (asked-in d u s desk x k (a .admitted) at lent r asked ∙ h)
+          ∙ ap deleteDone (statement-in d u s desk x k (a .admitted) at)
 
 -- ---- update
 
@@ -191,27 +213,29 @@ module _ (d u s : List ℕ) (desk : Desk) (x r : ℕ) (body : List ℕ) where
       ∷ (says d s (viewIn desk x) r 10, 10)
       ∷ updateRoom
 
-  abbrev updateDone : ℕ → ℕ → ℕ × Areas
-  updateDone t e = (0, areas (updatedData x t r e body d) (updatedUndo x t r e d u) s)
+  abbrev updateDone : ℕ → ℕ → (ℕ × Desk) × Areas
+  updateDone t e = ((0, desk), areas (updatedData x t r e body d) (updatedUndo x t r e d u) s)
 
-  abbrev updateNo : ℕ → ℕ × Areas
-  updateNo n = (n, areas d u s)
+  abbrev updateNo : ℕ → (ℕ × Desk) × Areas
+  updateNo n = ((n, refusedDesk n x desk), areas d u s)
 
-  abbrev updateEnd : Bool → ℕ × Areas
+  abbrev updateEnd : Bool → (ℕ × Desk) × Areas
   updateEnd b = settle (firstOf (updateRest b)) (updateDone (viewIn desk x .statement) (lowestFree u)) updateNo
 
-  pub update-refused : (n : Answer) → admission d u s desk x ≡ Refused n → updateRule (areas d u s) desk x r body ≡ updateNo (codeOf n)
+  pub update-refused : (n : Answer) → unspoiledAdmission d u s desk x ≡ Refused n → updateRule (areas d u s) desk x r body ≡ ((codeOf n, desk), areas d u s)
   unfolding updateRule updateRefusal updated
   update-refused n e =
-      refuses d u s desk x n (updateRest (noRow d r || badBody body)) (updateDone (viewIn desk x .statement) (lowestFree u)) updateNo e
+      refuses-unspoiled d u s desk x n (updateRest (noRow d r || badBody body)) (updateDone (viewIn desk x .statement) (lowestFree u)) updateNo e
+      ∙ ap (λ (k : Desk). ((codeOf n, k), areas d u s)) (desk-calm (codeOf n) x desk (refuses-calm d u s desk x n e))
 
-  module _ (k : ℕ) (a : Admits d u s desk x k) where
+  module _ (k : ℕ) (a : Unspoiled d u s desk x k) where
     update-on : updateRule (areas d u s) desk x r body ≡ updateEnd (noRow d r || badBody body)
     unfolding updateRule updateRefusal updated
     update-on =
-        goes-on d u s desk x k a (updateRest (noRow d r || badBody body)) (updateDone (viewIn desk x .statement) (lowestFree u)) updateNo
+        goes-past d u s desk x k a (updateRest (noRow d r || badBody body)) (updateDone (viewIn desk x .statement) (lowestFree u)) updateNo
 
-    pub update-5 : (length body ≡ 32 → ⊥) → updateRule (areas d u s) desk x r body ≡ updateNo 5
+    pub update-5 : (length body ≡ 32 → ⊥) → updateRule (areas d u s) desk x r body ≡ ((5, desk), areas d u s)
+    unfolding refusedDesk
     update-5 h = update-on ∙ rw (ne-eqb (length body) 32 h, or-true (noRow d r))
 
     module _ (long : length body ≡ 32) {t : ℕ} {l : List ℕ} {m : ℕ} (at : t ≡ getD (desk .statements) k 0) (lent : l ≡ usedOf (viewAt k desk .list)) (asked : m ≡ writeRefusal d u s (viewOf x t l) r) where
@@ -221,22 +245,23 @@ module _ (d u s : List ℕ) (desk : Desk) (x r : ℕ) (body : List ℕ) where
       pub update-no : (m ≡ 0 → ⊥) → updateRule (areas d u s) desk x r body ≡ updateNo m
       update-no h =
           update-asked
-          ∙ write-no d u s (viewIn desk x) r updateRoom (updateDone (viewIn desk x .statement) (lowestFree u)) updateNo m (asked-in d u s desk x k a at lent r asked) h
+          ∙ write-no d u s (viewIn desk x) r updateRoom (updateDone (viewIn desk x .statement) (lowestFree u)) updateNo m (asked-in d u s desk x k (a .admitted) at lent r asked) h
 
       module _ (h : m ≡ 0) {e : ℕ} (is : e ≡ lowestFree u) where
         update-room : updateRule (areas d u s) desk x r body ≡ settle (firstOf updateRoom) (updateDone (viewIn desk x .statement) (lowestFree u)) updateNo
         update-room =
             update-asked
-            ∙ write-on d u s (viewIn desk x) r updateRoom (updateDone (viewIn desk x .statement) (lowestFree u)) updateNo (asked-in d u s desk x k a at lent r asked ∙ h)
+            ∙ write-on d u s (viewIn desk x) r updateRoom (updateDone (viewIn desk x .statement) (lowestFree u)) updateNo (asked-in d u s desk x k (a .admitted) at lent r asked ∙ h)
 
-        pub update-11 : {m : ℕ} → m ≡ entries u → e ≡ m → updateRule (areas d u s) desk x r body ≡ updateNo 11
+        pub update-11 : {m : ℕ} → m ≡ entries u → e ≡ m → updateRule (areas d u s) desk x r body ≡ ((11, desk), areas d u s)
+        unfolding refusedDesk
         update-11 all full = update-room ∙ rw (eq-eqb (lowestFree u) (entries u) (sym is ∙ full ∙ all))
 
         pub update-0 : {m : ℕ} → m ≡ entries u → (e ≡ m → ⊥) → updateRule (areas d u s) desk x r body ≡ updateDone t e
         update-0 all some =
             update-room
             ∙ rw (ne-eqb (lowestFree u) (entries u) (λ (q : lowestFree u ≡ entries u). some (is ∙ q ∙ sym all)))
-            (ap (λ (i : ℕ). updateDone (viewIn desk x .statement) i) (sym is) ∙ ap (λ (n : ℕ). updateDone n e) (statement-in d u s desk x k a at))
+            (ap (λ (i : ℕ). updateDone (viewIn desk x .statement) i) (sym is) ∙ ap (λ (n : ℕ). updateDone n e) (statement-in d u s desk x k (a .admitted) at))
 
 -- ---- read
 

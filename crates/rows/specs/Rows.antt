@@ -1,7 +1,8 @@
 -- The rules of insert, update, delete and read: what each answers, and what it leaves in the areas that it writes ("01, Writes,
--- withdrawal, sweep", "01, When the desk says no"); 17 "stands between 6 and 7" ("02, T-05"). Assumes nothing.
+-- withdrawal, sweep", "01, When the desk says no"); 17 "stands between 6 and 7" ("02, T-05"), 18 "directly after 4" ("02, T-07"). Assumes
+-- nothing.
 use Prim.Native.Nat.{ℕ}
-use mathlib.Core.Bool.{Bool, not, _||_}
+use mathlib.Core.Bool.{Bool, not, _||_, cond}
 use mathlib.Core.List.{List, [], _∷_}
 use lib.ListN.{length}
 use lib.Dec.{eqb}
@@ -11,7 +12,7 @@ use Rattle.desk.specs.declared.Desk.{Desk}
 use Rattle.desk.specs.View.{View}
 use Rattle.desk.specs.Sound.{sound}
 use Rattle.places.specs.Open.{placeIn, isOpen}
-use Rattle.desk.specs.Turns.{viewAt}
+use Rattle.desk.specs.Turns.{viewAt, spoiled, isSpoiled}
 use Rattle.kind.specs.Kind.{rows, entries}
 use Rattle.kind.specs.Areas.{Areas, areas, badLength}
 use Rattle.chain.specs.declared.Place.{Place}
@@ -41,6 +42,11 @@ viewIn d x = viewAt (placeIn x (d .numbers)) d
 abbrev pub badBody : List ℕ → Bool
 badBody body = not (eqb (length body) 32)
 
+-- "After an answer 10, the desk marks that session spoiled, the one change that refusal makes": the desk that refusal n leaves to session
+-- x, which would write
+unfoldable pub refusedDesk : ℕ → ℕ → Desk → Desk
+refusedDesk n x d = cond (eqb n 10) (spoiled (placeIn x (d .numbers)) d) d
+
 -- ---- insert
 
 -- 11: "no empty slot (insert)"
@@ -50,6 +56,7 @@ insertRefusal a d x body =
     ((badLength a, 1)
     ∷ (not (sound d), 2)
     ∷ (not (isOpen x (d .numbers)), 4)
+    ∷ (isSpoiled x d, 18)
     ∷ (badBody body, 5)
     ∷ (eqb (lowestEmpty (a .«data»)) (rows (a .«data»)), 11)
     ∷ [])
@@ -70,6 +77,7 @@ updateRefusal a d x r body =
     ((badLength a, 1)
     ∷ (not (sound d), 2)
     ∷ (not (isOpen x (d .numbers)), 4)
+    ∷ (isSpoiled x d, 18)
     ∷ (noRow (a .«data») r || badBody body, 5)
     ∷ (breaks (a .«data») (a .undo) (a .status) (viewIn d x) r, 6)
     ∷ (doubts (a .«data») (a .undo) (a .status) (viewIn d x) r, 17)
@@ -88,8 +96,9 @@ updated a d x r body =
     (updatedUndo x (viewIn d x .statement) r (lowestFree (a .undo)) (a .«data») (a .undo))
     (a .status)
 
-unfoldable pub updateRule : Areas → Desk → ℕ → ℕ → List ℕ → ℕ × Areas
-updateRule a d x r body = settle (updateRefusal a d x r body) (0, updated a d x r body) (λ (n : ℕ). (n, a))
+unfoldable pub updateRule : Areas → Desk → ℕ → ℕ → List ℕ → (ℕ × Desk) × Areas
+updateRule a d x r body =
+    settle (updateRefusal a d x r body) ((0, d), updated a d x r body) (λ (n : ℕ). ((n, refusedDesk n x d), a))
 
 -- ---- delete
 
@@ -99,6 +108,7 @@ deleteRefusal a d x r =
     ((badLength a, 1)
     ∷ (not (sound d), 2)
     ∷ (not (isOpen x (d .numbers)), 4)
+    ∷ (isSpoiled x d, 18)
     ∷ (noRow (a .«data») r, 5)
     ∷ (breaks (a .«data») (a .undo) (a .status) (viewIn d x) r, 6)
     ∷ (doubts (a .«data») (a .undo) (a .status) (viewIn d x) r, 17)
@@ -109,9 +119,11 @@ deleteRefusal a d x r =
     ∷ [])
 
 -- "Delete sets expire and expire_cmd"
-unfoldable pub deleteRule : Areas → Desk → ℕ → ℕ → ℕ × List ℕ
+unfoldable pub deleteRule : Areas → Desk → ℕ → ℕ → (ℕ × Desk) × List ℕ
 deleteRule a d x r =
-    settle (deleteRefusal a d x r) (0, deleted x (viewIn d x .statement) r (a .«data»)) (λ (n : ℕ). (n, a .«data»))
+    settle (deleteRefusal a d x r)
+    ((0, d), deleted x (viewIn d x .statement) r (a .«data»))
+    (λ (n : ℕ). ((n, refusedDesk n x d), a .«data»))
 
 -- ---- read
 

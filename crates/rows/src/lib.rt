@@ -1,15 +1,23 @@
 // Insert, update, delete and read ("01, Writes, withdrawal, sweep", "01, When the desk says no"). Areas that a call never writes are
-// lent as they are. None of the four changes the desk: it is lent as its words.
+// lent as they are. The desk is lent as its words: insert and read leave it, and update and delete change nothing of it but one mark, and
+// that only where they answer 10 ("02, T-07").
 use admit::Admitted;
 use answer::Answer;
 use chain::Place;
 use seeking::Sought;
 use words::Words;
 ghost use mathlib.Core.Path.{_≡_};
+ghost use mathlib.Core.Bool.{cond};
+ghost use Prim.Native.Nat.{_<_};
+ghost use lib.ListN.{length};
+ghost use lib.Dec.{eqb};
 ghost use Rattle.ground.specs.Does.{Does};
 ghost use Rattle.answer.specs.Code.{codeOf};
 ghost use Rattle.kind.specs.Areas.{areas};
-ghost use Rattle.words.specs.Words.{deskIn};
+ghost use Rattle.columns.specs.Limits.{sessions};
+ghost use Rattle.desk.specs.Turns.{spoiled};
+ghost use Rattle.words.specs.Words.{all-words, deskIn, Desks};
+ghost use Rattle.admit.specs.Admit.{said};
 ghost use Rattle.chain.specs.declared.Place.the-variants.{Nowhere};
 ghost use Rattle.rows.specs.Rows.{saidInserted, saidSeen, insertRule, updateRule, deleteRule, readRule};
 
@@ -29,6 +37,9 @@ pub struct Seen {
 // "a body of 32 bytes"
 const BODY: usize = 32;
 
+// 10: the row was written by another session that is committed and not seen
+const LOST: u32 = 10;
+
 // Makes a new row in the lowest empty slot.
 pub fn insert(
     data: &mut [u8],
@@ -40,7 +51,7 @@ pub fn insert(
 ) -> Inserted
     ensures { λ r. ⌜ Does (insertRule (areas (now («data» .entry)) (now (undo .entry)) (now (status .entry))) (deskIn (now (desk .entry))) session (now (body .entry))) (saidInserted r) (now («data» .exit)) ⌝ }
 {
-    let k = match admit::admit(data.len(), undo.len(), status.len(), desk, session) {
+    let k = match admit::admit_unspoiled(data.len(), undo.len(), status.len(), desk, session) {
         Admitted::Refused(answer) => return unmade(answer),
         Admitted::At(k) => k,
     };
@@ -65,19 +76,32 @@ fn unmade(answer: Answer) -> Inserted
     Inserted { answer, row: 0 }
 }
 
+// A refused write of the session at place k: "After an answer 10, the desk marks that session spoiled, the one change that refusal makes."
+fn unwritten(desk: &mut [u32], k: usize, refusal: Answer) -> Answer
+    requires { ⌜ (length (now desk) ≡ all-words) × (k < sessions) ⌝ }
+    ensures { λ r. ⌜ (r ≡ refusal) × (deskIn (now (desk .exit)) ≡ cond (eqb (codeOf refusal) 10) (spoiled k (deskIn (now (desk .entry)))) (deskIn (now (desk .entry)))) × (length (now (desk .exit)) ≡ all-words) ⌝ }
+{
+    if answer::code(refusal) != LOST {
+        return refusal;
+    }
+    words::spoil(desk, k);
+    refusal
+}
+
 // Replaces the row's version by a new one, and keeps the old one in the lowest free entry.
-pub fn update<'a>(
+pub fn update(
     data: &mut [u8],
     undo: &mut [u8],
-    status: &'a [u8],
-    desk: &'a Words,
+    status: &[u8],
+    desk: &mut Words,
     session: u64,
     row: usize,
     body: &[u8],
 ) -> Answer
-    ensures { λ r. ⌜ Does (updateRule (areas (now («data» .entry)) (now (undo .entry)) (now (status .entry))) (deskIn (now (desk .entry))) session row (now (body .entry))) (codeOf r) (areas (now («data» .exit)) (now (undo .exit)) (now (status .exit))) ⌝ }
+    ensures does { λ r. ⌜ Does (updateRule (areas (now («data» .entry)) (now (undo .entry)) (now (status .entry))) (deskIn (now (desk .entry))) session row (now (body .entry))) (said r (now (desk .exit))) (areas (now («data» .exit)) (now (undo .exit)) (now (status .exit))) ⌝ }
+    ensures desks { λ _. ⌜ Desks (now (desk .entry)) (now (desk .exit)) ⌝ }
 {
-    let k = match admit::admit(data.len(), undo.len(), status.len(), desk, session) {
+    let k = match admit::admit_unspoiled(data.len(), undo.len(), status.len(), desk, session) {
         Admitted::Refused(answer) => return answer,
         Admitted::At(k) => k,
     };
@@ -88,7 +112,7 @@ pub fn update<'a>(
     let list = words::list(desk, k);
     let refusal = seeking::may_write(data, undo, status, session, statement, list, row);
     if answer::code(refusal) != 0 {
-        return refusal;
+        return unwritten(desk, k, refusal);
     }
     let e = vacant::lowest_free(undo);
     if e == kind::entries(undo) {
@@ -103,13 +127,14 @@ pub fn delete<'a>(
     data: &mut [u8],
     undo: &'a [u8],
     status: &'a [u8],
-    desk: &'a Words,
+    desk: &mut Words,
     session: u64,
     row: usize,
 ) -> Answer
-    ensures { λ r. ⌜ Does (deleteRule (areas (now («data» .entry)) (now (undo .entry)) (now (status .entry))) (deskIn (now (desk .entry))) session row) (codeOf r) (now («data» .exit)) ⌝ }
+    ensures does { λ r. ⌜ Does (deleteRule (areas (now («data» .entry)) (now (undo .entry)) (now (status .entry))) (deskIn (now (desk .entry))) session row) (said r (now (desk .exit))) (now («data» .exit)) ⌝ }
+    ensures desks { λ _. ⌜ Desks (now (desk .entry)) (now (desk .exit)) ⌝ }
 {
-    let k = match admit::admit(data.len(), undo.len(), status.len(), desk, session) {
+    let k = match admit::admit_unspoiled(data.len(), undo.len(), status.len(), desk, session) {
         Admitted::Refused(answer) => return answer,
         Admitted::At(k) => k,
     };
@@ -117,7 +142,7 @@ pub fn delete<'a>(
     let list = words::list(desk, k);
     let refusal = seeking::may_write(data, undo, status, session, statement, list, row);
     if answer::code(refusal) != 0 {
-        return refusal;
+        return unwritten(desk, k, refusal);
     }
     writing::delete_at(data, row, session, statement);
     Answer::Done

@@ -1,5 +1,6 @@
 -- What the rule of a run promises ("01, The script and one whole run"): a text may come in pieces, an end is an end, and a run goes on; before
--- an accepted format every well-formed call but format answers 1, and a refused line leaves everything. Assumes nothing.
+-- an accepted format every well-formed call but format answers 1, and a refused line leaves everything but the mark of a 10 ("02, T-07"). Assumes
+-- nothing.
 use Prim.Native.Nat.{ℕ, zero, suc, _+_, _-_, _*_, _≤_, _<_}
 use native.Mathlib.Omega.{arith}
 use mathlib.Core.Path.{_≡_, refl, sym, ap, subst⁻¹, _∙_}
@@ -16,13 +17,16 @@ use Rattle.lines.specs.Span.{before, parts, lacks}
 use Rattle.lines.proofs.Spans.{before-length, before-whole, parts-cut, parts-ended, parts-last, lacks-before, parts-alone, parts-ended-append, parts-glued}
 use Rattle.kind.specs.Kind.{lengthOk, lengthsOk}
 use Rattle.kind.specs.Areas.{Areas, areas}
+use Rattle.places.specs.Open.{placeIn}
 use Rattle.desk.specs.declared.Desk.{Desk}
+use Rattle.desk.specs.Turns.{spoiled}
 use Rattle.keep.specs.Keep.{formatRule, openRefusal, openRule, sealRefusal, sealRule}
 use Rattle.keep.proofs.Promises.{format-refused, seal-refused}
 use Rattle.turns.specs.Turns.{beginRefusal, beginRule, nextRefusal, nextRule, commitRefusal, commitRule}
 use Rattle.turns.proofs.Promises.{begin-refused, next-refused-leaves, commit-refused-leaves}
-use Rattle.rows.specs.Rows.{insertRefusal, insertRule, updateRefusal, updateRule, deleteRefusal, deleteRule, readRefusal, readRule}
-use Rattle.rows.proofs.Promises.{insert-refused-leaves, update-refused-leaves, delete-refused-leaves}
+use Rattle.rows.specs.Rows.{refusedDesk, insertRefusal, insertRule, updateRefusal, updateRule, deleteRefusal, deleteRule, readRefusal, readRule}
+use Rattle.rows.proofs.Calls.{desk-calm}
+use Rattle.rows.proofs.Promises.{insert-refused-leaves, update-refused-leaves, delete-refused-leaves, update-desk, delete-desk}
 use Rattle.undoing.specs.Undoing.{withdrawRefusal, withdrawRule}
 use Rattle.undoing.proofs.Promises.{withdraw-refused-leaves}
 use Rattle.sweeping.specs.Sweeping.{sweepRefusal, sweepRule}
@@ -36,7 +40,7 @@ use Rattle.calls.specs.Calls.{Left}
 use Rattle.playing.specs.Playing.{lineOf, playedBy, playRule}
 use Rattle.playing.proofs.Lengths.{answer-most}
 use Rattle.script.specs.declared.Footing.{Footing}
-use Rattle.script.specs.Script.{lent, isFormat, dataLent, undoLent, Carried, carried, leftIn, lineIn, stepped, commandIn, sixteen, answers, output, Portion, portion, inLine, lined, restOf, rested, full, runLines, runRule, lentTo}
+use Rattle.script.specs.Script.{lent, isFormat, dataLent, undoLent, Carried, carried, leftIn, lineIn, changesRow, refusedFooting, stepped, commandIn, sixteen, answers, output, Portion, portion, inLine, lined, restOf, rested, full, runLines, runRule, lentTo}
 use Rattle.script.proofs.Portions.{full-no, run-full, run-next, run-last}
 
 true-false : (t : Bool) → t ≡ true → t ≡ false → ⊥
@@ -410,7 +414,7 @@ module _ (room : ℕ) where
       taken : w .taken ≡ length text
       taken = omega (arith, all .0)
 
--- ---- before an accepted format, and where a line is refused
+-- ---- before an accepted format
 
 module _ (a : Areas) (d : Desk) (x y : ℕ) (body : List ℕ) where
   one : lengthsOk (length (a .«data»)) (length (a .undo)) (length (a .status)) ≡ false
@@ -454,47 +458,86 @@ fresh-one k c e f g = one (lentTo k c) (k .footing .desk) (c .first) (c .second)
     bad : lengthsOk (length (lentTo k c .«data»)) (length (lentTo k c .undo)) (length (lentTo k c .status)) ≡ false
     bad = ap (λ (n : ℕ). lengthsOk (length (take n (k .lent .«data»))) (length (lentTo k c .undo)) (length (lentTo k c .status))) nothing
 
+-- ---- where a line is refused
+
 module _ (a : Areas) (d : Desk) (x y : ℕ) (body : List ℕ) where
-  leaves : (v : Verb) → (playedBy v a d x y body .code ≡ 0 → ⊥) → (playedBy v a d x y body .desk ≡ d) × (playedBy v a d x y body .lent ≡ a)
+  abbrev does : Verb → Left
+  does v = playedBy v a d x y body
+
+  -- "Every refusal leaves areas and desk unchanged", but for the mark that a 10 of update or delete sets ("02, T-07")
+  leaves : (v : Verb) → (does v .code ≡ 0 → ⊥) → (does v .desk ≡ cond (changesRow v) (refusedDesk (does v .code) x d) d) × (does v .lent ≡ a)
   leaves Format h = (sym (kept-old (formatRule a .0 .0) (formatRule a .0 .1) d h), format-refused a h)
   leaves Open h = (sym (kept-old (openRule a .0) (openRule a .1) d h), refl)
   leaves Seal h = (refl, seal-refused a d h)
   leaves Begin h = (begin-refused a d h .0, ap (areas (a .«data») (a .undo)) (begin-refused a d h .1))
   leaves Next h = (next-refused-leaves a d x h, refl)
   leaves Insert h = (refl, ap (λ (s : List ℕ). areas s (a .undo) (a .status)) (insert-refused-leaves a d x body h .1))
-  leaves Update h = (refl, update-refused-leaves a d x y body h)
-  leaves Delete h = (refl, ap (λ (s : List ℕ). areas s (a .undo) (a .status)) (delete-refused-leaves a d x y h))
+  leaves Update h = (update-desk a d x y body, update-refused-leaves a d x y body h)
+  leaves Delete h = (delete-desk a d x y, ap (λ (s : List ℕ). areas s (a .undo) (a .status)) (delete-refused-leaves a d x y h))
   leaves Read h = (refl, refl)
   leaves Commit h = (commit-refused-leaves a d x h .0, ap (areas (a .«data») (a .undo)) (commit-refused-leaves a d x h .1))
   leaves Withdraw h = withdraw-refused-leaves a d x h
   leaves Sweep h = (refl, sweep-refused-leaves a d x y h .2)
   leaves IllFormed h = (refl, refl)
 
-left-refused : (k : Carried) (c : Command) → (leftIn k c .code ≡ 0 → ⊥) → (leftIn k c .desk ≡ k .footing .desk) × (leftIn k c .lent ≡ lentTo k c)
-unfolding leftIn playRule
-left-refused k c h = leaves (lentTo k c) (k .footing .desk) (c .first) (c .second) (c .body) (c .verb) h
+module _ (k : Carried) (c : Command) where
+  -- the number that its line answers, and the desk that it comes to
+  abbrev number : ℕ
+  number = leftIn k c .code
 
--- "Every refusal leaves areas and desk unchanged": of a line, too, and the lengths that the last accepted format named
-pub refused-leaves : (k : Carried) (c : Command) → (leftIn k c .code ≡ 0 → ⊥) → stepped k c ≡ carried (inLine false (k .footing)) (k .lent)
-unfolding stepped
-refused-leaves k c h =
-    ap (λ (b : Bool). carried (record { desk = l .desk; «data» = cond b n (k .footing .«data»); undo = cond b m (k .footing .undo); long = false }) (areas (l .lent .«data» ++ drop n (k .lent .«data»)) (l .lent .undo ++ drop m (k .lent .undo)) (l .lent .status))) plain
-    ∙ ap (λ (e : Desk). carried (record { desk = e; «data» = k .footing .«data»; undo = k .footing .undo; long = false }) (areas (l .lent .«data» ++ drop n (k .lent .«data»)) (l .lent .undo ++ drop m (k .lent .undo)) (l .lent .status))) (same .0)
-    ∙ ap (λ (a : Areas). carried (inLine false (k .footing)) (areas (a .«data» ++ drop n (k .lent .«data»)) (a .undo ++ drop m (k .lent .undo)) (a .status))) (same .1)
-    ∙ ap (λ (s : List ℕ). carried (inLine false (k .footing)) (areas s (take m (k .lent .undo) ++ drop m (k .lent .undo)) (k .lent .status))) (take-append-drop n (k .lent .«data»))
-    ∙ ap (λ (s : List ℕ). carried (inLine false (k .footing)) (areas (k .lent .«data») s (k .lent .status))) (take-append-drop m (k .lent .undo))
-  where
-    n : ℕ
-    n = dataLent c (k .footing) (k .lent .«data»)
+  abbrev desk : Desk
+  desk = k .footing .desk
 
-    m : ℕ
-    m = undoLent c (k .footing) (k .lent .undo)
+  -- the same, with another desk, in a line that is not too long
+  abbrev onDesk : Desk → Footing
+  onDesk d = record { desk = d; «data» = k .footing .«data»; undo = k .footing .undo; long = false }
 
-    l : Left
-    l = leftIn k c
+  left-refused : (number ≡ 0 → ⊥)
+      → (leftIn k c .desk ≡ cond (changesRow (c .verb)) (refusedDesk number (c .first) desk) desk) × (leftIn k c .lent ≡ lentTo k c)
+  unfolding leftIn playRule
+  left-refused h = leaves (lentTo k c) desk (c .first) (c .second) (c .body) (c .verb) h
 
-    plain : (isFormat (c .verb) && eqb (l .code) 0) ≡ false
-    plain = ap (λ (b : Bool). isFormat (c .verb) && b) (ne-eqb (l .code) 0 h) ∙ and-false (isFormat (c .verb))
+  -- "Every refusal leaves areas and desk unchanged", but for the mark that a 10 of update or delete sets: of a line, too, and the lengths that
+  -- the last accepted format named
+  pub refused-leaves : (number ≡ 0 → ⊥) → stepped k c ≡ carried (refusedFooting (c .verb) number (c .first) (k .footing)) (k .lent)
+  unfolding stepped
+  refused-leaves h =
+      ap (λ (b : Bool). carried (record { desk = l .desk; «data» = cond b n (k .footing .«data»); undo = cond b m (k .footing .undo); long = false }) (areas (l .lent .«data» ++ drop n (k .lent .«data»)) (l .lent .undo ++ drop m (k .lent .undo)) (l .lent .status))) plain
+      ∙ ap (λ (e : Desk). carried (onDesk e) (areas (l .lent .«data» ++ drop n (k .lent .«data»)) (l .lent .undo ++ drop m (k .lent .undo)) (l .lent .status))) (same .0)
+      ∙ ap (λ (a : Areas). carried on (areas (a .«data» ++ drop n (k .lent .«data»)) (a .undo ++ drop m (k .lent .undo)) (a .status))) (same .1)
+      ∙ ap (λ (s : List ℕ). carried on (areas s (take m (k .lent .undo) ++ drop m (k .lent .undo)) (k .lent .status))) (take-append-drop n (k .lent .«data»))
+      ∙ ap (λ (s : List ℕ). carried on (areas (k .lent .«data») s (k .lent .status))) (take-append-drop m (k .lent .undo))
+    where
+      n : ℕ
+      n = dataLent c (k .footing) (k .lent .«data»)
 
-    same : (l .desk ≡ k .footing .desk) × (l .lent ≡ lentTo k c)
-    same = left-refused k c h
+      m : ℕ
+      m = undoLent c (k .footing) (k .lent .undo)
+
+      l : Left
+      l = leftIn k c
+
+      on : Footing
+      on = refusedFooting (c .verb) number (c .first) (k .footing)
+
+      plain : (isFormat (c .verb) && eqb (l .code) 0) ≡ false
+      plain = ap (λ (b : Bool). isFormat (c .verb) && b) (ne-eqb (l .code) 0 h) ∙ and-false (isFormat (c .verb))
+
+      same : (l .desk ≡ cond (changesRow (c .verb)) (refusedDesk number (c .first) desk) desk) × (l .lent ≡ lentTo k c)
+      same = left-refused h
+
+  -- where the number is no 10 all of it stays
+  pub refused-stays : (number ≡ 0 → ⊥) → (number ≡ 10 → ⊥) → stepped k c ≡ carried (inLine false (k .footing)) (k .lent)
+  refused-stays h other = refused-leaves h ∙ ap (λ (d : Desk). carried (onDesk d) (k .lent)) (by (changesRow (c .verb)))
+    where
+      by : (b : Bool) → cond b (refusedDesk number (c .first) desk) desk ≡ desk
+      by true = desk-calm number (c .first) desk (ne-eqb number 10 other)
+      by false = refl
+
+  -- "After an answer 10, the desk marks that session spoiled, the one change that refusal makes" ("02, T-07")
+  pub ten-marks : changesRow (c .verb) ≡ true → number ≡ 10 → stepped k c ≡ carried (onDesk (spoiled (placeIn (c .first) (desk .numbers)) desk)) (k .lent)
+  unfolding refusedDesk
+  ten-marks changes ten =
+      refused-leaves (λ none. omega (arith, ten, none))
+      ∙ ap (λ (b : Bool). carried (onDesk (cond b (refusedDesk number (c .first) desk) desk)) (k .lent)) changes
+      ∙ ap (λ (n : ℕ). carried (onDesk (refusedDesk n (c .first) desk)) (k .lent)) ten

@@ -19,6 +19,7 @@ use Rattle.line.specs.declared.Command.{Command}
 use Rattle.line.specs.Line.{commandOf, ill, longest as longestLine}
 use Rattle.lines.specs.declared.Line.{Line}
 use Rattle.reply.specs.Reply.{answerLine, longest as longestAnswer}
+use Rattle.rows.specs.Rows.{refusedDesk}
 use Rattle.calls.specs.Calls.{Left}
 use Rattle.playing.specs.Playing.{playRule, lineOf}
 use Rattle.script.specs.declared.Footing.{Footing}
@@ -95,6 +96,28 @@ stepped k c =
     carried
     (footing l (isFormat (c .verb)) n m (k .footing))
     (areas (l .lent .«data» ++ drop n (k .lent .«data»)) (l .lent .undo ++ drop m (k .lent .undo)) (l .lent .status))
+
+-- the calls that can be answered 10 ("01, When the desk says no": "8 to 10", of "update, delete"): they change a row that is there
+abbrev pub changesRow : Verb → Bool
+changesRow Format = false
+changesRow Open = false
+changesRow Seal = false
+changesRow Begin = false
+changesRow Next = false
+changesRow Insert = false
+changesRow Update = true
+changesRow Delete = true
+changesRow Read = false
+changesRow Commit = false
+changesRow Withdraw = false
+changesRow Sweep = false
+changesRow IllFormed = false
+
+-- what refusal n of a call carries on, where its line names session x: "After an answer 10, the desk marks that session spoiled, the one
+-- change that refusal makes" ("02, T-07"); else the desk stays, and the lengths that the last accepted format named
+abbrev pub refusedFooting : Verb → ℕ → ℕ → Footing → Footing
+refusedFooting v n x s =
+    record { desk = cond (changesRow v) (refusedDesk n x (s .desk)) (s .desk); «data» = s .«data»; undo = s .undo; long = false }
 
 -- what a step leaves is that: what is carried on, and its line at a place of the buffer, inside it
 pub record Steps (k : Carried) (c : Command) (at : ℕ) (buffer : List ℕ) (r : Stepped) (left : Areas) (behind : List ℕ) : Type 0 where

@@ -30,7 +30,7 @@ use Rattle.playing.specs.Playing.{fieldsOf}
 use Rattle.reply.specs.Reply.{answerLine}
 use Rattle.reply.proofs.Sayings.{answer-refused}
 use Rattle.script.specs.Script.{Carried, carried, leftIn, lineIn, stepped, commandIn, sixteen, answers, lentTo, dataLent, inLine, freshFooting}
-use Rattle.script.proofs.Promises.{fresh-one, refused-leaves}
+use Rattle.script.proofs.Promises.{fresh-one, refused-stays}
 use Rattle.scripted.specs.Scripted.{worldIn, callBy, lineFor, afterLine, printed, onward, historyIn, accepted, formats, BeforeFormat, Prints, ScriptReading, OutputReading}
 use Rattle.scripted.proofs.Steps.{line-step}
 use Rattle.scripted.proofs.Histories.{answers-behind, script-run}
@@ -68,7 +68,7 @@ before a ls f = none-named ls (carried freshFooting a) (refl, refl) f
 pub before-format : BeforeFormat
 before-format a ls f c v g = (
   answer-refused (leftIn k c .code) (fieldsOf (c .verb) (leftIn k c)) some ∙ ap (λ (n : ℕ). answerLine n []) one,
-  refused-leaves k c some ∙ ap (λ (b : Bool). carried (inLine b (k .footing)) (k .lent)) (sym (before a ls f .1)),
+  refused-stays k c some (λ e. omega (arith, one, e)) ∙ ap (λ (b : Bool). carried (inLine b (k .footing)) (k .lent)) (sym (before a ls f .1)),
 )
   where
     k : Carried

@@ -18,12 +18,12 @@ use Rattle.places.specs.Open.{openCount, placeIn, isOpen}
 use Rattle.desk.specs.declared.Desk.{Desk}
 use Rattle.desk.specs.Desk.{freshDesk}
 use Rattle.desk.specs.Sound.{sound}
-use Rattle.desk.specs.Turns.{viewAt, begun, moved, closed}
+use Rattle.desk.specs.Turns.{viewAt, begun, moved, closed, spoiled}
 use Rattle.desk.proofs.Sounds.{fresh-closed}
 use Rattle.sessions.proofs.Changes.{Open, Long, sound-number, isOpen-open, getD-isOpen, open-used, open-unused, begun-view}
 use Rattle.machine.specs.Machine.{Session, find, move, close, onward, numbers as numbersOf}
 use Rattle.machine.proofs.Basics.{true-false}
-use Rattle.seen.specs.Seen.{sessionAt, sessionsFrom, openSessions}
+use Rattle.seen.specs.Seen.{sessionAt, sessionsFrom, openSessions, standings, rowOf, seenAs}
 use Rattle.seen.proofs.Knowing.{sessionOf}
 use Rattle.seen.proofs.Runs.{Absent, from-agree, session-agree, from-split, from-move}
 use Rattle.seen.proofs.Runs.{find-none, find-later, close-none, close-append}
@@ -38,6 +38,7 @@ begun-long d long =
     record {
       numbers = length-set (d .numbers) k (d .next) ∙ long .numbers;
       statements = length-set (d .statements) k 0 ∙ long .statements;
+      marks = length-set (d .marks) k 0 ∙ long .marks;
       lists = length-sets (d .lists) (k * 15) (take 15 (d .numbers)) ∙ long .lists;
     }
 
@@ -47,6 +48,7 @@ moved-long d k long =
     record {
       numbers = long .numbers;
       statements = length-set (d .statements) k (getD (d .statements) k 0 + 1) ∙ long .statements;
+      marks = long .marks;
       lists = long .lists;
     }
 
@@ -56,12 +58,13 @@ closed-long d k h long =
     record {
       numbers = length-without k 1 (d .numbers) (omega (arith, long .numbers)) ∙ long .numbers;
       statements = length-without k 1 (d .statements) (omega (arith, long .statements)) ∙ long .statements;
+      marks = length-without k 1 (d .marks) (omega (arith, long .marks)) ∙ long .marks;
       lists = length-without (k * 15) 15 (d .lists) (omega (arith, long .lists)) ∙ long .lists;
     }
 
 pub fresh-long : (n : ℕ) → Long (freshDesk n)
 unfolding freshDesk
-fresh-long n = record { numbers = refl; statements = refl; lists = refl }
+fresh-long n = record { numbers = refl; statements = refl; marks = refl; lists = refl }
 
 -- ---- a closed desk, place by place
 
@@ -214,6 +217,19 @@ module _ (d : Desk) (s : sound d ≡ true) (long : Long d) where
     where
       newcomer : List ℕ → Session
       newcomer l = record { number = d .next; statement = 0; list = l }
+
+-- ---- a spoiled session ("02, T-07"): the machine knows no marks
+
+pub spoiled-sessions : (d : Desk) (k : ℕ) → openSessions (spoiled k d) ≡ openSessions d
+unfolding spoiled
+spoiled-sessions d k = from-agree (spoiled k d) d 0 (openCount (d .numbers)) 0 0 refl (λ i h. rw add-zero)
+
+pub spoiled-seen : («data» undo status : List ℕ) (d : Desk) (k : ℕ) → seenAs «data» undo status (spoiled k d) ≡ seenAs «data» undo status d
+unfolding spoiled
+spoiled-seen «data» undo status d k =
+    ap (λ (l : List Session). record { next = d .next; status = standings status; desk = l; rows = rowOf «data» undo }) (spoiled-sessions d k)
+
+-- ---- a desk without sessions
 
 pub fresh-sessions : (n : ℕ) → openSessions (freshDesk n) ≡ []
 fresh-sessions n = ap (sessionsFrom (freshDesk n) 0) (fresh-closed n)

@@ -10,16 +10,16 @@ use lib.Dec.{eqb, ltb}
 use lib.ListN.{getD, take, drop, take-append-drop, List·getD-eq-default}
 use lib.Seq.{getD-drop, drop-drop, take-all}
 use borrow.Author.Tests.{eqb-true, eqb-false, ltb-true, ltb-false}
-use Rattle.ground.proofs.Ranges.{lt-or-le, and-true-right}
+use Rattle.ground.proofs.Ranges.{lt-or-le}
 use Rattle.columns.specs.Columns.{smallest, markOf}
 use Rattle.places.specs.Open.{openCount}
 use Rattle.places.specs.Places.{ascending}
-use Rattle.places.proofs.Sounds.{session-unused}
 use Rattle.desk.specs.declared.Desk.{Desk}
 use Rattle.desk.specs.Sound.{sound}
 use Rattle.desk.specs.Turns.{mark}
 use Rattle.sessions.proofs.Ascents.{ascending-rising}
-use Rattle.sessions.proofs.Changes.{Long, sound-parts, open-unused}
+use Rattle.sessions.proofs.Changes.{Long, open-unused}
+use Rattle.sessions.proofs.Lists.{sound-list}
 use Rattle.machine.specs.Machine.{Session, least, numbers as numbersOf, mark as markAmong}
 use Rattle.seen.specs.Seen.{used, sessionsFrom, openSessions}
 use Rattle.seen.proofs.Counts.{open-at-most, used-first, used-numbers}
@@ -125,10 +125,7 @@ module _ (d : Desk) (s : sound d ≡ true) (long : Long d) where
           split = omega arith
 
           none : ascending 0 (d .lists) (k * 15) 15 ≡ true
-          none =
-              and-true-right (eqb (getD (d .statements) k 0) 0) (ascending 0 (d .lists) (k * 15) 15)
-              (sym (session-unused (d .numbers) (d .statements) (d .lists) k (open-unused d s k (omega arith) (omega arith)))
-              ∙ sound-parts d s .each k (omega arith))
+          none = rw (open-unused d s k (omega arith) (omega arith)) at (sound-list d s k (omega arith))
 
           by : (t : Bool) → eqb there 0 ≡ t → there ≡ 0
           by true e = eqb-true there 0 e

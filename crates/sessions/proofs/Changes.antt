@@ -14,7 +14,7 @@ use Rattle.ground.specs.Range.{firstFrom, allBelow}
 use Rattle.ground.proofs.Ranges.{lt-or-le, and-true-left, and-true-right, first-passes, first-before, all-at, all-intro}
 use Rattle.columns.proofs.Columns.{without-before, without-after, sets-other, sets-part}
 use Rattle.columns.specs.Columns.{without, smallest, markOf}
-use Rattle.columns.specs.Limits.{lastStatement}
+use Rattle.columns.specs.Limits.{lastStatement, spoiledMark}
 use Rattle.places.proofs.Sounds.{session-unused, session-open}
 use Rattle.places.specs.Open.{openCount, placeIn, isOpen}
 use Rattle.places.specs.Places.{ascending, sessionSound}
@@ -31,7 +31,7 @@ pub record Sound (d : Desk) : Type 0 where
   pub first : 1 ≤ d .next
   pub last : d .next ≤ 32576
   pub ascends : ascending (d .next) (d .numbers) 0 16 ≡ true
-  pub each : (k : ℕ) → k < 16 → sessionSound (d .numbers) (d .statements) (d .lists) k ≡ true
+  pub each : (k : ℕ) → k < 16 → sessionSound (d .numbers) (d .statements) (d .marks) (d .lists) k ≡ true
 
 pub sound-parts : (d : Desk) → sound d ≡ true → Sound d
 unfolding sound soundColumns
@@ -39,23 +39,23 @@ sound-parts d s =
     let low : Bool = leb 1 (d .next) in
     let high : Bool = leb (d .next) 32576 in
     let up : Bool = ascending (d .next) (d .numbers) 0 16 in
-    let all : Bool = allBelow (sessionSound (d .numbers) (d .statements) (d .lists)) 16 in
+    let all : Bool = allBelow (sessionSound (d .numbers) (d .statements) (d .marks) (d .lists)) 16 in
     let t : (high && (up && all)) ≡ true = and-true-right low (high && (up && all)) s in
     let u : (up && all) ≡ true = and-true-right high (up && all) t in
     record {
       first = leb-true 1 (d .next) (and-true-left low (high && (up && all)) s);
       last = leb-true (d .next) 32576 (and-true-left high (up && all) t);
       ascends = and-true-left up all u;
-      each = all-at (sessionSound (d .numbers) (d .statements) (d .lists)) 16 (and-true-right up all u);
+      each = all-at (sessionSound (d .numbers) (d .statements) (d .marks) (d .lists)) 16 (and-true-right up all u);
     }
 
 pub parts-sound : (d : Desk) → Sound d → sound d ≡ true
 unfolding sound soundColumns
 parts-sound d p =
     rw (le-leb 1 (d .next) (p .first), le-leb (d .next) 32576 (p .last), p .ascends)
-    (all-intro (sessionSound (d .numbers) (d .statements) (d .lists)) 16 (p .each))
+    (all-intro (sessionSound (d .numbers) (d .statements) (d .marks) (d .lists)) 16 (p .each))
 
-from-start : (l : List ℕ) (i : ℕ) → getD l i 0 ≡ getD l (0 + i) 0
+pub from-start : (l : List ℕ) (i : ℕ) → getD l i 0 ≡ getD l (0 + i) 0
 from-start l i = ap (λ (n : ℕ). getD l n 0) (sym (zero-add i))
 
 -- a session's number is below next, and above those before it
@@ -69,17 +69,47 @@ sound-number d s =
     let numbers : List ℕ = d .numbers in
     ascending-rising (d .next) numbers 0 (λ (i : ℕ). getD numbers i 0) (from-start numbers) 16 (sound-parts d s .ascends)
 
+-- what stands at place k beside its number
+pub record Beside (d : Desk) (k : ℕ) : Type 0 where
+  pub statement : getD (d .statements) k 0 ≤ cond (eqb (getD (d .numbers) k 0) 0) 0 lastStatement
+  pub marked : getD (d .marks) k 0 ≤ cond (eqb (getD (d .numbers) k 0) 0) 0 spoiledMark
+  pub list : ascending (getD (d .numbers) k 0) (d .lists) (k * 15) 15 ≡ true
+
+pub sound-beside : (d : Desk) → sound d ≡ true → (k : ℕ) → k < 16 → Beside d k
+unfolding sessionSound
+sound-beside d s k h =
+    let unused : Bool = eqb (getD (d .numbers) k 0) 0 in
+    let statement : Bool = leb (getD (d .statements) k 0) (cond unused 0 lastStatement) in
+    let marked : Bool = leb (getD (d .marks) k 0) (cond unused 0 spoiledMark) in
+    let list : Bool = ascending (getD (d .numbers) k 0) (d .lists) (k * 15) 15 in
+    let e : (statement && marked && list) ≡ true = sound-parts d s .each k h in
+    let f : (statement && marked) ≡ true = and-true-left (statement && marked) list e in
+    record {
+      statement = leb-true _ _ (and-true-left statement marked f);
+      marked = leb-true _ _ (and-true-right statement marked f);
+      list = and-true-right (statement && marked) list e;
+    }
+
 -- a session's statement is at most 65,535
 pub sound-statement : (d : Desk) → sound d ≡ true → (k : ℕ) → k < 16 → getD (d .statements) k 0 ≤ 65535
-unfolding sessionSound
-sound-statement d s k h =
-    by
-    (eqb (getD (d .numbers) k 0) 0)
-    (leb-true _ _ (and-true-left _ (ascending (getD (d .numbers) k 0) (d .lists) (k * 15) 15) (sound-parts d s .each k h)))
+sound-statement d s k h = by (eqb (getD (d .numbers) k 0) 0) (sound-beside d s k h .statement)
   where
     by : (t : Bool) → getD (d .statements) k 0 ≤ cond t 0 lastStatement → getD (d .statements) k 0 ≤ 65535
     by true g = omega arith
     by false g = g
+
+-- its mark is 0 or 1
+pub sound-mark : (d : Desk) → sound d ≡ true → (k : ℕ) → k < 16 → getD (d .marks) k 0 ≤ 1
+sound-mark d s k h = by (eqb (getD (d .numbers) k 0) 0) (sound-beside d s k h .marked)
+  where
+    by : (t : Bool) → getD (d .marks) k 0 ≤ cond t 0 spoiledMark → getD (d .marks) k 0 ≤ 1
+    by true g = omega arith
+    by false g = g
+
+-- and an unused place has none
+pub sound-unmarked : (d : Desk) → sound d ≡ true → (k : ℕ) → k < 16 → getD (d .numbers) k 0 ≡ 0 → getD (d .marks) k 0 ≡ 0
+sound-unmarked d s k h e =
+    let none : getD (d .marks) k 0 ≤ 0 = rw (eq-eqb (getD (d .numbers) k 0) 0 e) at (sound-beside d s k h .marked) in omega arith
 
 -- ---- an open session
 
@@ -91,16 +121,25 @@ pub record Open (d : Desk) (x : ℕ) : Type 0 where
   pub here : getD (d .numbers) (placeIn x (d .numbers)) 0 ≡ x
   pub statement : getD (d .statements) (placeIn x (d .numbers)) 0 ≤ 65535
 
-placeIn-here : (x : ℕ) (numbers : List ℕ) → placeIn x numbers < 16 → getD numbers (placeIn x numbers) 0 ≡ x
+-- where x has a place, it stands there
+pub placeIn-here : (x : ℕ) (numbers : List ℕ) → placeIn x numbers < 16 → getD numbers (placeIn x numbers) 0 ≡ x
 unfolding placeIn
 placeIn-here x numbers h =
     eqb-true _ _ (first-passes (λ (k : ℕ). eqb (getD numbers k 0) x) 0 16 h)
 
-pub isOpen-open : (d : Desk) (x : ℕ) → sound d ≡ true → isOpen x (d .numbers) ≡ true → Open d x
+-- an open session is a number, and has a place
+pub isOpen-used : (x : ℕ) (numbers : List ℕ) → isOpen x numbers ≡ true → x ≡ 0 → ⊥
 unfolding isOpen
+isOpen-used x numbers e = eqb-false x 0 (not-true (eqb x 0) (and-true-left (not (eqb x 0)) _ e))
+
+pub isOpen-place : (x : ℕ) (numbers : List ℕ) → isOpen x numbers ≡ true → placeIn x numbers < 16
+unfolding isOpen
+isOpen-place x numbers e = ltb-true _ 16 (and-true-right (not (eqb x 0)) _ e)
+
+pub isOpen-open : (d : Desk) (x : ℕ) → sound d ≡ true → isOpen x (d .numbers) ≡ true → Open d x
 isOpen-open d x s e =
-    let used : x ≡ 0 → ⊥ = eqb-false x 0 (not-true (eqb x 0) (and-true-left (not (eqb x 0)) _ e)) in
-    let low : placeIn x (d .numbers) < 16 = ltb-true _ 16 (and-true-right (not (eqb x 0)) _ e) in
+    let used : x ≡ 0 → ⊥ = isOpen-used x (d .numbers) e in
+    let low : placeIn x (d .numbers) < 16 = isOpen-place x (d .numbers) e in
     let is = placeIn-here x (d .numbers) low in
     let below : x < d .next = rw is at (sound-number d s _ low (λ q. used (sym is ∙ q)) .below) in
     let last : d .next ≤ 32576 = sound-parts d s .last in
@@ -234,14 +273,15 @@ mark-from d s = by (mark-one d)
 
 -- ---- places that agree
 
-module _ (numbers statements lists : List ℕ) (k : ℕ) (numbers′ statements′ lists′ : List ℕ) (j : ℕ) where
-  session-agree : getD numbers k 0 ≡ getD numbers′ j 0
+module _ (numbers statements marks lists : List ℕ) (k : ℕ) (numbers′ statements′ marks′ lists′ : List ℕ) (j : ℕ) where
+  pub session-agree : getD numbers k 0 ≡ getD numbers′ j 0
       → getD statements k 0 ≡ getD statements′ j 0
+      → getD marks k 0 ≡ getD marks′ j 0
       → ((i : ℕ) → i < 15 → getD lists (k * 15 + i) 0 ≡ getD lists′ (j * 15 + i) 0)
-      → sessionSound numbers statements lists k ≡ sessionSound numbers′ statements′ lists′ j
+      → sessionSound numbers statements marks lists k ≡ sessionSound numbers′ statements′ marks′ lists′ j
   unfolding sessionSound
-  session-agree e f g =
-      rw (e, f, ascending-agree (getD numbers′ j 0) lists lists′ (k * 15) (j * 15) 15 g)
+  session-agree e f m g =
+      rw (e, f, m, ascending-agree (getD numbers′ j 0) lists lists′ (k * 15) (j * 15) 15 g)
 
 -- ---- the next statement
 
@@ -260,25 +300,26 @@ moved-sound d k s long h u q =
     next : List ℕ
     next = set (d .statements) k (getD (d .statements) k 0 + 1)
 
-    here : sessionSound (d .numbers) next (d .lists) k ≡ true
+    here : sessionSound (d .numbers) next (d .marks) (d .lists) k ≡ true
     here =
-        let old = session-open (d .numbers) (d .statements) (d .lists) k u in
-        let list : ascending (getD (d .numbers) k 0) (d .lists) (k * 15) 15 ≡ true
-        = and-true-right (leb (getD (d .statements) k 0) 65535) _ (sym old ∙ sound-parts d s .each k h) in
         let value : getD next k 0 ≡ getD (d .statements) k 0 + 1
         = getD-set-same (d .statements) k (getD (d .statements) k 0 + 1) 0 (omega arith) in
-        session-open (d .numbers) next (d .lists) k u ∙ ap₂ _&&_ (le-leb (getD next k 0) 65535 (omega arith)) list
+        session-open (d .numbers) next (d .marks) (d .lists) k u
+        ∙ ap₂ _&&_
+        (ap₂ _&&_ (le-leb (getD next k 0) 65535 (omega arith)) (le-leb (getD (d .marks) k 0) 1 (sound-mark d s k h)))
+        (sound-beside d s k h .list)
 
-    by : (j : ℕ) → j < 16 → (t : Bool) → eqb j k ≡ t → sessionSound (d .numbers) next (d .lists) j ≡ true
+    by : (j : ℕ) → j < 16 → (t : Bool) → eqb j k ≡ t → sessionSound (d .numbers) next (d .marks) (d .lists) j ≡ true
     by j l true e = rw (eqb-true j k e) here
     by j l false e =
-        session-agree (d .numbers) next (d .lists) j (d .numbers) (d .statements) (d .lists) j
+        session-agree (d .numbers) next (d .marks) (d .lists) j (d .numbers) (d .statements) (d .marks) (d .lists) j
         refl
         (getD-set-other (d .statements) k j (getD (d .statements) k 0 + 1) 0 (eqb-false j k e))
+        refl
         (λ i m. refl)
         ∙ sound-parts d s .each j l
 
-    each : (j : ℕ) → j < 16 → sessionSound (d .numbers) next (d .lists) j ≡ true
+    each : (j : ℕ) → j < 16 → sessionSound (d .numbers) next (d .marks) (d .lists) j ≡ true
     each j l = by j l (eqb j k) refl
 
 -- ---- a new session
@@ -320,6 +361,7 @@ module _ (d : Desk) (s : sound d ≡ true) where
 pub record Long (d : Desk) : Type 0 where
   pub numbers : length (d .numbers) ≡ 16
   pub statements : length (d .statements) ≡ 16
+  pub marks : length (d .marks) ≡ 16
   pub lists : length (d .lists) ≡ 240
 
 -- what the new session sees by: the number handed out, statement 0, and the numbers open then
@@ -348,6 +390,9 @@ module _ (d : Desk) (s : sound d ≡ true) (long : Long d) (k : ℕ) (counted : 
 
   abbrev with-statement : List ℕ
   with-statement = set (d .statements) k 0
+
+  abbrev with-mark : List ℕ
+  with-mark = set (d .marks) k 0
 
   abbrev with-listed : List ℕ
   with-listed = sets (d .lists) (k * 15) (take 15 (d .numbers))
@@ -407,7 +452,7 @@ module _ (d : Desk) (s : sound d ≡ true) (long : Long d) (k : ℕ) (counted : 
       ∙ getD-take 15 (d .numbers) i 0 h
       ∙ from-start (d .numbers) i
 
-  session-here : sessionSound with-number with-statement with-listed k ≡ true
+  session-here : sessionSound with-number with-statement with-mark with-listed k ≡ true
   session-here =
       let first : 1 ≤ d .next = sound-parts d s .first in
       let up : ascending (d .next) (d .numbers) 0 15 ≡ true
@@ -415,14 +460,18 @@ module _ (d : Desk) (s : sound d ≡ true) (long : Long d) (k : ℕ) (counted : 
       let list : ascending (d .next) with-listed (k * 15) 15 ≡ true
       = ascending-agree (d .next) with-listed (d .numbers) (k * 15) 0 15 listed ∙ up in
       let zero : getD with-statement k 0 ≡ 0 = getD-set-same (d .statements) k 0 0 (omega arith) in
-      session-open with-number with-statement with-listed k (λ e. omega (arith, here))
-      ∙ ap₂ _&&_ (le-leb (getD with-statement k 0) 65535 (omega arith)) (rw here list)
+      let unmarked : getD with-mark k 0 ≡ 0 = getD-set-same (d .marks) k 0 0 (omega arith) in
+      session-open with-number with-statement with-mark with-listed k (λ e. omega (arith, here))
+      ∙ ap₂ _&&_
+      (ap₂ _&&_ (le-leb (getD with-statement k 0) 65535 (omega arith)) (le-leb (getD with-mark k 0) 1 (omega arith)))
+      (rw here list)
 
-  session-other : (j : ℕ) → j < 16 → (j ≡ k → ⊥) → sessionSound with-number with-statement with-listed j ≡ true
+  session-other : (j : ℕ) → j < 16 → (j ≡ k → ⊥) → sessionSound with-number with-statement with-mark with-listed j ≡ true
   session-other j h u =
-      session-agree with-number with-statement with-listed j (d .numbers) (d .statements) (d .lists) j
+      session-agree with-number with-statement with-mark with-listed j (d .numbers) (d .statements) (d .marks) (d .lists) j
       (other j u)
       (getD-set-other (d .statements) k j 0 0 u)
+      (getD-set-other (d .marks) k j 0 0 u)
       (λ i m. sets-other (take 15 (d .numbers)) (d .lists) (k * 15) (j * 15 + i) (apart i m (lt-or-le j k)))
       ∙ sound-parts d s .each j h
     where
@@ -436,12 +485,17 @@ module _ (d : Desk) (s : sound d ≡ true) (long : Long d) (k : ℕ) (counted : 
           let more : k < j = ⊎-elim (λ (e : k ≡ j). absurd (u (sym e))) (λ (p : k < j). p) (eq-or-lt-of-le q) in
           inr (omega arith)
 
-  with-each : (j : ℕ) → j < 16 → sessionSound with-number with-statement with-listed j ≡ true
+  with-each : (j : ℕ) → j < 16 → sessionSound with-number with-statement with-mark with-listed j ≡ true
   with-each j h = by (eqb j k) refl
     where
-      by : (t : Bool) → eqb j k ≡ t → sessionSound with-number with-statement with-listed j ≡ true
+      by : (t : Bool) → eqb j k ≡ t → sessionSound with-number with-statement with-mark with-listed j ≡ true
       by true e = rw (eqb-true j k e) session-here
       by false e = session-other j h (eqb-false j k e)
+
+-- its numbers ascend
+pub begun-ascends : (d : Desk) → sound d ≡ true → Long d → openCount (d .numbers) < 16 → ascending (d .next + 1) (begun d .numbers) 0 16 ≡ true
+unfolding begun
+begun-ascends d s long room = with-ascends d s long (openCount (d .numbers)) refl room
 
 pub begun-sound : (d : Desk)
     → sound d ≡ true
@@ -455,7 +509,7 @@ begun-sound d s long room h =
     (record {
       first = omega arith;
       last = omega arith;
-      ascends = with-ascends d s long (openCount (d .numbers)) refl room;
+      ascends = begun-ascends d s long room;
       each = with-each d s long (openCount (d .numbers)) refl room;
     })
 
@@ -471,14 +525,19 @@ module _ (d : Desk) (s : sound d ≡ true) (long : Long d) where
       past : (j : ℕ) → length (d .lists) ≤ 240 + j
       past j = omega arith
 
-  session-past : sessionSound (d .numbers) (d .statements) (d .lists) 16 ≡ true
+  session-past : sessionSound (d .numbers) (d .statements) (d .marks) (d .lists) 16 ≡ true
   session-past =
       let m : length (d .numbers) ≤ 16 = omega arith in
       let n : length (d .statements) ≤ 16 = omega arith in
-      session-unused (d .numbers) (d .statements) (d .lists) 16 (List·getD-eq-default (d .numbers) 0 m)
-      ∙ ap₂ _&&_ (eq-eqb (getD (d .statements) 16 0) 0 (List·getD-eq-default (d .statements) 0 n)) (past-unused 15)
+      let o : length (d .marks) ≤ 16 = omega arith in
+      session-unused (d .numbers) (d .statements) (d .marks) (d .lists) 16 (List·getD-eq-default (d .numbers) 0 m)
+      ∙ ap₂ _&&_
+      (ap₂ _&&_
+      (eq-eqb (getD (d .statements) 16 0) 0 (List·getD-eq-default (d .statements) 0 n))
+      (eq-eqb (getD (d .marks) 16 0) 0 (List·getD-eq-default (d .marks) 0 o)))
+      (past-unused 15)
 
-  session-until : (j : ℕ) → j ≤ 16 → sessionSound (d .numbers) (d .statements) (d .lists) j ≡ true
+  session-until : (j : ℕ) → j ≤ 16 → sessionSound (d .numbers) (d .statements) (d .marks) (d .lists) j ≡ true
   session-until j h =
       ⊎-elim (λ (e : j ≡ 16). rw e session-past) (λ (q : j < 16). sound-parts d s .each j q) (eq-or-lt-of-le h)
 
@@ -530,23 +589,25 @@ module _ (d : Desk) (s : sound d ≡ true) (long : Long d) where
 
     closed-each : (j : ℕ)
         → j < 16
-        → sessionSound (without k 1 (d .numbers)) (without k 1 (d .statements)) (without (k * 15) 15 (d .lists)) j ≡ true
+        → sessionSound (without k 1 (d .numbers)) (without k 1 (d .statements)) (without k 1 (d .marks)) (without (k * 15) 15 (d .lists)) j ≡ true
     closed-each j l = by (lt-or-le j k)
       where
         by : (j < k) ⊎ (k ≤ j)
-            → sessionSound (without k 1 (d .numbers)) (without k 1 (d .statements)) (without (k * 15) 15 (d .lists)) j ≡ true
+            → sessionSound (without k 1 (d .numbers)) (without k 1 (d .statements)) (without k 1 (d .marks)) (without (k * 15) 15 (d .lists)) j ≡ true
         by (inl q) =
-            session-agree (without k 1 (d .numbers)) (without k 1 (d .statements)) (without (k * 15) 15 (d .lists)) j
-            (d .numbers) (d .statements) (d .lists) j
+            session-agree (without k 1 (d .numbers)) (without k 1 (d .statements)) (without k 1 (d .marks)) (without (k * 15) 15 (d .lists)) j
+            (d .numbers) (d .statements) (d .marks) (d .lists) j
             (number-before j q)
             (without-before k 1 (d .statements) (omega arith) j q)
+            (without-before k 1 (d .marks) (omega arith) j q)
             (λ i m. without-before (k * 15) 15 (d .lists) (omega arith) (j * 15 + i) (omega arith))
             ∙ session-until j (omega arith)
         by (inr q) =
-            session-agree (without k 1 (d .numbers)) (without k 1 (d .statements)) (without (k * 15) 15 (d .lists)) j
-            (d .numbers) (d .statements) (d .lists) (j + 1)
+            session-agree (without k 1 (d .numbers)) (without k 1 (d .statements)) (without k 1 (d .marks)) (without (k * 15) 15 (d .lists)) j
+            (d .numbers) (d .statements) (d .marks) (d .lists) (j + 1)
             (number-after j q)
             (without-after k 1 (d .statements) (omega arith) j q)
+            (without-after k 1 (d .marks) (omega arith) j q)
             list
             ∙ session-until (j + 1) (omega arith)
           where

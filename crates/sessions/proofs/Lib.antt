@@ -1,3 +1,4 @@
 pub mod Ascents
 pub mod Changes
 pub mod Lists
+pub mod Marks

@@ -1,33 +1,28 @@
 -- The list of a session in a sound desk: behind its first unused place there is no number ("at most 15, ascending, .. unused places
 -- are zero"), so that its used places are all that anybody looks for in it. Assumes nothing.
 use mathlib.Core.Path.{_≡_, sym, ap, _∙_}
-use mathlib.Core.Bool.{true, cond}
+use mathlib.Core.Bool.{true}
 use mathlib.Core.Logic.{_⊎_, inl, inr}
 use Prim.Native.Nat.{ℕ, _+_, _-_, _*_, _≤_, _<_}
 use native.Mathlib.Omega.{arith}
 use lib.ListN.{getD, length, take, drop, length-take, List·getD-eq-default}
 use lib.Seq.{getD-take, getD-drop}
-use lib.Dec.{eqb, leb}
+use lib.Dec.{eqb}
 use borrow.Author.Tests.{eqb-true}
-use Rattle.ground.proofs.Ranges.{lt-or-le, and-true-right, first-passes}
-use Rattle.columns.specs.Limits.{members, lastStatement}
+use Rattle.ground.proofs.Ranges.{lt-or-le, first-passes}
+use Rattle.columns.specs.Limits.{members}
 use Rattle.columns.specs.Columns.{usedIn}
-use Rattle.places.specs.Places.{ascending, sessionSound}
+use Rattle.places.specs.Places.{ascending}
 use Rattle.places.proofs.Runs.{behind, unused-at}
 use Rattle.desk.specs.declared.Desk.{Desk}
 use Rattle.desk.specs.Sound.{sound}
 use Rattle.desk.specs.Turns.{viewAt}
 use Rattle.sessions.proofs.Ascents.{ascending-less}
-use Rattle.sessions.proofs.Changes.{sound-parts}
+use Rattle.sessions.proofs.Changes.{sound-beside}
 
 -- a session's list ascends
 pub sound-list : (d : Desk) → sound d ≡ true → (k : ℕ) → k < 16 → ascending (getD (d .numbers) k 0) (d .lists) (k * 15) 15 ≡ true
-unfolding sessionSound
-sound-list d s k h =
-    and-true-right
-    (leb (getD (d .statements) k 0) (cond (eqb (getD (d .numbers) k 0) 0) 0 lastStatement))
-    (ascending (getD (d .numbers) k 0) (d .lists) (k * 15) 15)
-    (sound-parts d s .each k h)
+sound-list d s k h = sound-beside d s k h .list
 
 module _ (d : Desk) (s : sound d ≡ true) (k : ℕ) (h : k < 16) where
   -- place i of it, as the column has it

@@ -1,5 +1,5 @@
--- A call of the station's library, from what its own function ensures; the desk's words, by whether the call is done; and where a body
--- lies, as the code finds it. Assumes nothing.
+-- A call of the station's library, from what its own function ensures; the desk's words, by whether the call is done, or refused by 10; and
+-- where a body lies, as the code finds it. Assumes nothing.
 use Prim.Native.Nat.{ℕ, _+_, _≤_, _<_}
 use mathlib.Core.Path.{_≡_, refl, sym, ap, _∙_}
 use mathlib.Core.Bool.{Bool, true, false, cond}
@@ -12,13 +12,16 @@ use Rattle.ground.specs.Does.{Does}
 use Rattle.ground.specs.Refuse.{kept}
 use Rattle.kind.specs.Kind.{rows, entries}
 use Rattle.kind.specs.Areas.{Areas}
+use Rattle.places.specs.Open.{placeIn}
 use Rattle.desk.specs.declared.Desk.{Desk}
+use Rattle.desk.specs.Turns.{spoiled}
 use Rattle.records.specs.Slot.{slotPlace}
 use Rattle.records.specs.Entry.{entryPlace}
 use Rattle.chain.specs.declared.Place.{Place}
 use Rattle.chain.specs.declared.Place.the-variants.{Nowhere, Data, Undo}
 use Rattle.words.specs.Words.{all-words, deskIn, wordsOf}
 use Rattle.words.proofs.Laws.{words-back, words-once}
+use Rattle.rows.specs.Rows.{refusedDesk}
 use Rattle.station.specs.Station.{handed, liesOf}
 
 -- ---- a call
@@ -40,7 +43,7 @@ calls code lent words out rule done n w o =
 pub reads : {A B : Type 0} (rule : A) {a : A} (b : B) → a ≡ rule → Does (rule, b) a b
 reads rule b e = record { answers = e; leaves = refl }
 
--- ---- the desk's words, by whether the call is done
+-- ---- the desk's words, by whether the call is done, or refused by 10
 
 -- the desk that format and open hand back, where they are done: the answer, as its function says it
 pub kept-by : {n m : ℕ} (d : Desk) (w : List ℕ) {l : List ℕ} → n ≡ m → l ≡ kept n (wordsOf d) w → l ≡ kept m (wordsOf (kept m d (deskIn w))) w
@@ -57,6 +60,16 @@ kept-words w w′ long long′ n left = by (eqb n 0) refl
     by : (t : Bool) → eqb n 0 ≡ t → w′ ≡ cond t (wordsOf (deskIn w′)) w
     by true e = sym (words-back w′ long′)
     by false e = words-once w′ w long′ long (left (eqb-false n 0 e))
+
+-- words w that an update or a delete of session x has changed to w′: they change only where it answers 10 ("02, T-07")
+pub marked-words : (w w′ : List ℕ) → length w ≡ all-words → length w′ ≡ all-words → {n m : ℕ} (x : ℕ) → n ≡ m → deskIn w′ ≡ refusedDesk m x (deskIn w)
+    → w′ ≡ cond (eqb n 10) (wordsOf (deskIn w′)) w
+unfolding refusedDesk
+marked-words w w′ long long′ {n} {m} x same left = by (eqb m 10) left ∙ ap (λ (k : ℕ). cond (eqb k 10) (wordsOf (deskIn w′)) w) (sym same)
+  where
+    by : (t : Bool) → deskIn w′ ≡ cond t (spoiled (placeIn x (deskIn w .numbers)) (deskIn w)) (deskIn w) → w′ ≡ cond t (wordsOf (deskIn w′)) w
+    by true e = sym (words-back w′ long′)
+    by false e = words-once w′ w long′ long e
 
 -- ---- what is reported, in words that are lent
 

@@ -3,7 +3,7 @@
 use Prim.Native.Nat.{ℕ, _+_}
 use mathlib.Core.Bool.{cond}
 use mathlib.Core.List.{List, [], _∷_}
-use lib.Dec.{ltb}
+use lib.Dec.{eqb, ltb}
 use Rattle.ground.specs.Refuse.{kept}
 use Rattle.kind.specs.Kind.{rows, entries}
 use Rattle.kind.specs.Areas.{Areas}
@@ -30,6 +30,10 @@ wordsRead l w out = (l .code, handed (l .lent) w out)
 -- and where they are lent to be written they change only where the call is done
 abbrev pub wordsWritten : Left → List ℕ → List ℕ → ℕ × Handed
 wordsWritten l w out = (l .code, handed (l .lent) (kept (l .code) (wordsOf (l .desk)) w) out)
+
+-- where a write is refused by 10 they change too: the session is marked ("02, T-07"); done, it leaves them
+abbrev pub wordsMarked : Left → List ℕ → List ℕ → ℕ × Handed
+wordsMarked l w out = (l .code, handed (l .lent) (cond (eqb (l .code) 10) (wordsOf (l .desk)) w) out)
 
 -- where a body lies: 1 in the data area, 2 in the undo area, and at which byte of it; 0 nowhere
 unfoldable pub liesOf : Place → List ℕ → List ℕ → ℕ × ℕ
@@ -58,10 +62,10 @@ unfoldable pub insertCall : Areas → List ℕ → ℕ → List ℕ → ℕ × H
 insertCall a w x body = let l = insertLeaves a (deskIn w) x body in wordsRead l w (l .first ∷ [])
 
 unfoldable pub updateCall : Areas → List ℕ → ℕ → ℕ → List ℕ → ℕ × Handed
-updateCall a w x row body = wordsRead (updateLeaves a (deskIn w) x row body) w []
+updateCall a w x row body = wordsMarked (updateLeaves a (deskIn w) x row body) w []
 
 unfoldable pub deleteCall : Areas → List ℕ → ℕ → ℕ → ℕ × Handed
-deleteCall a w x row = wordsRead (deleteLeaves a (deskIn w) x row) w []
+deleteCall a w x row = wordsMarked (deleteLeaves a (deskIn w) x row) w []
 
 unfoldable pub readCall : Areas → List ℕ → ℕ → ℕ → ℕ × Handed
 readCall a w x row =

@@ -1,5 +1,6 @@
 // The store for a station's own program, from C or Rust (include/chirimok.h). Each function hands its call on, and says the number that
-// the call answers, 0 where it is done. The desk is 273 words of 32 bits, lent; they change only where the call is done. No rule is here.
+// the call answers, 0 where it is done. The desk is 289 words of 32 bits, lent; they change only where the call is done, but for the mark
+// of a session that an update or delete answers 10 ("02, T-07"). No rule is here.
 use chain::Place;
 use desk::Desk;
 use words::Words;
@@ -42,13 +43,20 @@ fn put_three(out: &mut [u64], a: u64, b: u64, c: u64)
     out[2] = c;
 }
 
-// Writes the desk that format and open hand back, where they are done; the words of a refused call stay.
+// Writes the desk that format and open hand back, where they are done; where they are refused the words stay.
 fn put_kept(words: &mut [u32], code: u32, new: Desk)
     requires { ⌜ length (now words) ≡ all-words ⌝ }
     ensures { λ _. ⌜ now (words .exit) ≡ kept code (wordsOf new) (now (words .entry)) ⌝ }
 {
     if code == 0 {
-        words::put_desk(words, new.next, &new.numbers, &new.statements, &new.lists);
+        words::put_desk(
+            words,
+            new.next,
+            &new.numbers,
+            &new.statements,
+            &new.marks,
+            &new.lists,
+        );
     }
 }
 
@@ -177,13 +185,13 @@ pub extern "C" fn chirimok_insert(
     answer::code(a)
 }
 
-// Replaces a row's body.
+// Replaces a row's body. Where it answers 10 the session's mark is set, and no other word changes.
 #[no_mangle]
-pub extern "C" fn chirimok_update<'a>(
+pub extern "C" fn chirimok_update(
     data: &mut [u8],
     undo: &mut [u8],
-    status: &'a [u8],
-    desk: &'a Words,
+    status: &[u8],
+    desk: &mut Words,
     session: u64,
     row: u64,
     body: &[u8],
@@ -194,13 +202,13 @@ pub extern "C" fn chirimok_update<'a>(
     answer::code(a)
 }
 
-// Ends a row.
+// Ends a row. Where it answers 10 the session's mark is set, and no other word changes.
 #[no_mangle]
 pub extern "C" fn chirimok_delete<'a>(
     data: &mut [u8],
     undo: &'a [u8],
     status: &'a [u8],
-    desk: &'a Words,
+    desk: &mut Words,
     session: u64,
     row: u64,
 ) -> u32

@@ -1,5 +1,5 @@
--- No word of a sound desk is above 65,535: next and the numbers are at most 32,576, statements at most 65,535, members below a number. Assumes
--- nothing.
+-- No word of a sound desk is above 65,535: next and the numbers are at most 32,576, statements at most 65,535, marks at most 1, members below a
+-- number. Assumes nothing.
 use Prim.Native.Nat.{ℕ, _+_, _-_, _*_, _/_, _%_, _≤_, _<_}
 use native.Mathlib.Omega.{arith}
 use mathlib.Core.Path.{_≡_, refl, ap, _∙_}
@@ -15,9 +15,9 @@ use Rattle.columns.specs.Limits.{sessions, members, places, lastStatement}
 use Rattle.places.specs.Places.{follows, placed, ascending}
 use Rattle.desk.specs.declared.Desk.{Desk}
 use Rattle.desk.specs.Sound.{sound}
-use Rattle.sessions.proofs.Changes.{sound-parts, sound-statement}
+use Rattle.sessions.proofs.Changes.{sound-parts, sound-statement, sound-mark}
 use Rattle.sessions.proofs.Lists.{sound-list}
-use Rattle.words.specs.Words.{numbersAt, statementsAt, listsAt, all-words, deskIn}
+use Rattle.words.specs.Words.{numbersAt, statementsAt, marksAt, listsAt, all-words, deskIn}
 use Rattle.stationed.specs.Stationed.{WideUnsound}
 
 -- a place of a run that ascends below a top is at most that top
@@ -35,6 +35,9 @@ module _ (d : Desk) (s : sound d ≡ true) where
       let z : 0 + k ≡ k = omega arith in
       let at : getD (d .numbers) (0 + k) 0 ≡ getD (d .numbers) k 0 = ap (λ (i : ℕ). getD (d .numbers) i 0) z in
       omega (arith, placed-most (d .next) (d .numbers) 0 sessions (sound-parts d s .ascends) k h, sound-parts d s .last, at)
+
+  marks-most : (k : ℕ) → k < sessions → getD (d .marks) k 0 ≤ lastStatement
+  marks-most k h = omega (arith, sound-mark d s k h)
 
   lists-most : (j : ℕ) → j < places → getD (d .lists) j 0 ≤ lastStatement
   lists-most j h =
@@ -64,13 +67,17 @@ module _ (w : List ℕ) (s : sound (deskIn w) ≡ true) where
   unfolding deskIn
   word-most i h = by (lt-or-le i numbersAt)
     where
-      third : (i < listsAt) ⊎ (listsAt ≤ i) → statementsAt ≤ i → getD w i 0 ≤ lastStatement
+      fourth : (i < listsAt) ⊎ (listsAt ≤ i) → marksAt ≤ i → getD w i 0 ≤ lastStatement
+      fourth (inl l) low = from-column marksAt sessions i (marks-most (deskIn w) s) low l
+      fourth (inr l) low = from-column listsAt places i (lists-most (deskIn w) s) l h
+
+      third : (i < marksAt) ⊎ (marksAt ≤ i) → statementsAt ≤ i → getD w i 0 ≤ lastStatement
       third (inl l) low = from-column statementsAt sessions i (sound-statement (deskIn w) s) low l
-      third (inr l) low = from-column listsAt places i (lists-most (deskIn w) s) l h
+      third (inr l) low = fourth (lt-or-le i listsAt) l
 
       second : (i < statementsAt) ⊎ (statementsAt ≤ i) → numbersAt ≤ i → getD w i 0 ≤ lastStatement
       second (inl l) low = from-column numbersAt sessions i (numbers-most (deskIn w) s) low l
-      second (inr l) low = third (lt-or-le i listsAt) l
+      second (inr l) low = third (lt-or-le i marksAt) l
 
       by : (i < numbersAt) ⊎ (numbersAt ≤ i) → getD w i 0 ≤ lastStatement
       by (inl l) =

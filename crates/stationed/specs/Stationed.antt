@@ -112,7 +112,7 @@ StationReading = (h : Held) → Worded h → (cs : List Call) → AllProper cs �
 
 -- ---- a word that does not fit
 
--- "its statement (0 to 65,535)" is the largest number that a desk has: words of which one is above it, next, a number, a statement or a member of a
--- list, say an unsound desk, and so every call that asks for a desk answers 2 ("01, Sessions and sight": "Anything else is an unsound desk")
+-- "its statement (0 to 65,535)" is the largest number that a desk has: words of which one is above it, next, a number, a statement, a mark or a member
+-- of a list, say an unsound desk, and so every call that asks for a desk answers 2 ("01, Sessions and sight": "Anything else is an unsound desk")
 abbrev pub WideUnsound : Type 0
 WideUnsound = (w : List ℕ) (i : ℕ) → i < all-words → lastStatement < getD w i 0 → sound (deskIn w) ≡ false

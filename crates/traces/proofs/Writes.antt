@@ -39,7 +39,7 @@ pub delete-touches : DeleteTouches
 unfolding deleted
 delete-touches a d x r ok =
     let i = deletes (a .«data») (a .undo) (a .status) d x r ok in
-    subst (λ (y : ℕ × List ℕ). TouchedAt dataKind (Touched dataKind x) r (a .«data») (y .1))
+    subst (λ (y : (ℕ × Desk) × List ℕ). TouchedAt dataKind (Touched dataKind x) r (a .«data») (y .1))
     (sym (delete-does (a .«data») (a .undo) (a .status) d x r ok))
     (withMeta-touches x (number-fits a d x (i .session)) r (a .«data») (i .writable .inside)
     (expired x (viewIn d x .statement) (slotAt r (a .«data»))))
@@ -52,7 +52,7 @@ update-touches a d x r body ok =
     let e : ℕ = lowestFree (a .undo) in
     let c : ℕ = viewIn d x .statement in
     subst
-    (λ (y : ℕ × Areas).
+    (λ (y : (ℕ × Desk) × Areas).
     TouchedAt dataKind (Touched dataKind x) r (a .«data») (y .1 .«data»)
     × TouchedAt undoKind (Touched undoKind x) (lowestFree (a .undo)) (a .undo) (y .1 .undo)
     × (y .1 .status ≡ a .status))
@@ -75,7 +75,7 @@ pub delete-bytes : DeleteBytes
 unfolding deleted
 delete-bytes a d x r ok =
     let i = deletes (a .«data») (a .undo) (a .status) d x r ok in
-    ap (λ (y : ℕ × List ℕ). slotBytes r (y .1)) (delete-does (a .«data») (a .undo) (a .status) d x r ok)
+    ap (λ (y : (ℕ × Desk) × List ℕ). slotBytes r (y .1)) (delete-does (a .«data») (a .undo) (a .status) d x r ok)
     ∙ slotBytes-withMeta x r (expired x (viewIn d x .statement) (slotAt r (a .«data»))) (a .«data») (i .writable .inside)
 
 pub update-bytes : UpdateBytes
@@ -85,8 +85,8 @@ update-bytes a d x r body ok =
     let does = update-does (a .«data») (a .undo) (a .status) d x r body ok in
     let e : ℕ = lowestFree (a .undo) in
     let c : ℕ = viewIn d x .statement in (
-      ap (λ (y : ℕ × Areas). slotBytes r (y .1 .«data»)) does
+      ap (λ (y : (ℕ × Desk) × Areas). slotBytes r (y .1 .«data»)) does
           ∙ slotBytes-withSlot x r (made x c (pointerTo e)) (a .«data») (i .writable .inside) body (i .long),
-      ap (λ (y : ℕ × Areas). entryBytes e (y .1 .undo)) does
+      ap (λ (y : (ℕ × Desk) × Areas). entryBytes e (y .1 .undo)) does
           ∙ entryBytes-withEntry x e (kept x c r (slotAt r (a .«data»))) (bodyAt r (a .«data»)) (a .undo) (i .room) (length-bodyAt r (a .«data») (i .writable .inside)),
     )

@@ -20,7 +20,7 @@ use Rattle.page.specs.Header.{txnId, putField}
 use Rattle.status.specs.declared.Status.the-variants.{InWork, Committed}
 use Rattle.status.specs.Status.{putStatus}
 use Rattle.admit.specs.declared.Admitted.the-variants.{Refused}
-use Rattle.admit.proofs.Admissions.{Admits, admission, refuses, goes-on, admits-at}
+use Rattle.admit.proofs.Admissions.{Unspoiled, unspoiledAdmission, refuses-unspoiled, goes-past, admits-at}
 use Rattle.turns.specs.Turns.{beginRefusal, beginRule, nextRefusal, nextRule, commitRefusal, commitRule}
 
 module _ (d u s : List ℕ) (desk : Desk) where
@@ -79,23 +79,23 @@ module _ (d u s : List ℕ) (desk : Desk) where
     abbrev commitNo : ℕ → (ℕ × Desk) × List ℕ
     commitNo n = ((n, desk), s)
 
-    module _ (n : Answer) (e : admission d u s desk x ≡ Refused n) where
+    module _ (n : Answer) (e : unspoiledAdmission d u s desk x ≡ Refused n) where
       pub next-refused : nextRule (areas d u s) desk x ≡ nextNo (codeOf n)
       unfolding nextRule nextRefusal
-      next-refused = refuses d u s desk x n nextRest (nextDone (placeIn x (desk .numbers))) nextNo e
+      next-refused = refuses-unspoiled d u s desk x n nextRest (nextDone (placeIn x (desk .numbers))) nextNo e
 
       pub commit-refused : commitRule (areas d u s) desk x ≡ commitNo (codeOf n)
       unfolding commitRule commitRefusal
-      commit-refused = refuses d u s desk x n [] (commitDone (placeIn x (desk .numbers))) commitNo e
+      commit-refused = refuses-unspoiled d u s desk x n [] (commitDone (placeIn x (desk .numbers))) commitNo e
 
-    module _ (k : ℕ) (a : Admits d u s desk x k) where
+    module _ (k : ℕ) (a : Unspoiled d u s desk x k) where
       place : k ≡ placeIn x (desk .numbers)
-      place = admits-at d u s desk x k a
+      place = admits-at d u s desk x k (a .admitted)
 
       next-on : nextRule (areas d u s) desk x ≡ settle (firstOf ((eqb (getD (desk .statements) k 0) lastStatement, 14) ∷ [])) (nextDone k) nextNo
       unfolding nextRule nextRefusal
       next-on =
-          goes-on d u s desk x k a nextRest (nextDone (placeIn x (desk .numbers))) nextNo
+          goes-past d u s desk x k a nextRest (nextDone (placeIn x (desk .numbers))) nextNo
           ∙ ap (λ (i : ℕ). settle (firstOf ((eqb (getD (desk .statements) i 0) lastStatement, 14) ∷ [])) (nextDone i) nextNo) (sym place)
 
       pub next-14 : getD (desk .statements) k 0 ≡ 65535 → nextRule (areas d u s) desk x ≡ nextNo 14
@@ -106,4 +106,4 @@ module _ (d u s : List ℕ) (desk : Desk) where
 
       pub commit-0 : commitRule (areas d u s) desk x ≡ commitDone k
       unfolding commitRule commitRefusal
-      commit-0 = goes-on d u s desk x k a [] (commitDone (placeIn x (desk .numbers))) commitNo ∙ ap commitDone (sym place)
+      commit-0 = goes-past d u s desk x k a [] (commitDone (placeIn x (desk .numbers))) commitNo ∙ ap commitDone (sym place)

@@ -18,8 +18,10 @@ use Rattle.kind.specs.Areas.{Areas}
 use Rattle.page.specs.Header.{txnId, putField}
 use Rattle.status.specs.declared.Status.the-variants.{InWork, Committed}
 use Rattle.status.specs.Status.{putStatus}
+use Rattle.admit.specs.Admit.{said}
+use Rattle.admit.proofs.Admissions.{said-once}
 use Rattle.turns.specs.declared.Begun.{Begun}
-use Rattle.turns.specs.Turns.{saidBegun, saidMoved, beginRefusal, beginRule, nextRefusal, nextRule, commitRefusal, commitRule}
+use Rattle.turns.specs.Turns.{saidBegun, beginRefusal, beginRule, nextRefusal, nextRule, commitRefusal, commitRule}
 
 -- ---- no second result: answer, words and status page
 
@@ -30,20 +32,16 @@ module _ (w w′ : List ℕ) (long : length w ≡ all-words) (long′ : length w
       let n : r .number ≡ r′ .number = ap (λ (p : ℕ × ℕ × Desk). p .1) e in
       (λ i. record { answer = a i; number = n i }, words-once w w′ long long′ (ap (λ (p : ℕ × ℕ × Desk). p .2) e))
 
-  saidMoved-injective : (r r′ : Answer) → saidMoved r w ≡ saidMoved r′ w′ → (r ≡ r′) × (w ≡ w′)
-  saidMoved-injective r r′ e =
-      (codeOf-injective r r′ (ap (λ (p : ℕ × Desk). p .0) e), words-once w w′ long long′ (ap (λ (p : ℕ × Desk). p .1) e))
-
   pub begin-once : (a : Areas) (d : Desk) (r r′ : Begun) (x x′ : List ℕ) → Does (beginRule a d) (saidBegun r w) x → Does (beginRule a d) (saidBegun r′ w′) x′
       → ((r ≡ r′) × (w ≡ w′)) × (x ≡ x′)
   begin-once a d r r′ x x′ p q = let o = once p q in (saidBegun-injective r r′ (o .0), o .1)
 
-  pub next-once : (a : Areas) (d : Desk) (x : ℕ) (r r′ : Answer) → saidMoved r w ≡ nextRule a d x → saidMoved r′ w′ ≡ nextRule a d x → (r ≡ r′) × (w ≡ w′)
-  next-once a d x r r′ p q = saidMoved-injective r r′ (p ∙ sym q)
+  pub next-once : (a : Areas) (d : Desk) (x : ℕ) (r r′ : Answer) → said r w ≡ nextRule a d x → said r′ w′ ≡ nextRule a d x → (r ≡ r′) × (w ≡ w′)
+  next-once a d x r r′ p q = said-once w w′ long long′ r r′ (p ∙ sym q)
 
-  pub commit-once : (a : Areas) (d : Desk) (s : ℕ) (r r′ : Answer) (x x′ : List ℕ) → Does (commitRule a d s) (saidMoved r w) x → Does (commitRule a d s) (saidMoved r′ w′) x′
+  pub commit-once : (a : Areas) (d : Desk) (s : ℕ) (r r′ : Answer) (x x′ : List ℕ) → Does (commitRule a d s) (said r w) x → Does (commitRule a d s) (said r′ w′) x′
       → ((r ≡ r′) × (w ≡ w′)) × (x ≡ x′)
-  commit-once a d s r r′ x x′ p q = let o = once p q in (saidMoved-injective r r′ (o .0), o .1)
+  commit-once a d s r r′ x x′ p q = let o = once p q in (said-once w w′ long long′ r r′ (o .0), o .1)
 
 -- ---- a refused call leaves everything, and reports 0
 

@@ -12,7 +12,8 @@ ghost use Rattle.ground.specs.Does.{Does};
 ghost use Rattle.answer.specs.Code.{codeOf};
 ghost use Rattle.kind.specs.Areas.{areas};
 ghost use Rattle.words.specs.Words.{deskIn, Desks};
-ghost use Rattle.turns.specs.Turns.{saidBegun, saidMoved, beginRule, nextRule, commitRule};
+ghost use Rattle.admit.specs.Admit.{said};
+ghost use Rattle.turns.specs.Turns.{saidBegun, beginRule, nextRule, commitRule};
 
 // What begin answers: the number handed out, 0 where it refuses.
 pub struct Begun {
@@ -41,7 +42,14 @@ pub fn begin(data: &[u8], undo: &[u8], status: &mut [u8], desk: &mut Words) -> B
     status::put_status(status, number as usize, Status::InWork);
     page::header::put_txn_id(status, 0, number as u64);
     let new = words::desk_in(desk).begin();
-    words::put_desk(desk, new.next, &new.numbers, &new.statements, &new.lists);
+    words::put_desk(
+        desk,
+        new.next,
+        &new.numbers,
+        &new.statements,
+        &new.marks,
+        &new.lists,
+    );
     Begun {
         answer: Answer::Done,
         number: number as u64,
@@ -57,10 +65,10 @@ fn no_session(answer: Answer) -> Begun
 
 // Moves a session on to its next statement.
 pub fn next(data: &[u8], undo: &[u8], status: &[u8], desk: &mut Words, session: u64) -> Answer
-    ensures does { λ r. ⌜ saidMoved r (now (desk .exit)) ≡ nextRule (areas (now («data» .entry)) (now (undo .entry)) (now (status .entry))) (deskIn (now (desk .entry))) session ⌝ }
+    ensures does { λ r. ⌜ said r (now (desk .exit)) ≡ nextRule (areas (now («data» .entry)) (now (undo .entry)) (now (status .entry))) (deskIn (now (desk .entry))) session ⌝ }
     ensures desks { λ _. ⌜ Desks (now (desk .entry)) (now (desk .exit)) ⌝ }
 {
-    let a = admit::admit(data.len(), undo.len(), status.len(), desk, session);
+    let a = admit::admit_unspoiled(data.len(), undo.len(), status.len(), desk, session);
     match a {
         Admitted::Refused(answer) => answer,
         Admitted::At(k) => {
@@ -68,7 +76,14 @@ pub fn next(data: &[u8], undo: &[u8], status: &[u8], desk: &mut Words, session: 
                 return Answer::StatementsUsed;
             }
             let new = words::desk_in(desk).next_statement(k);
-            words::put_desk(desk, new.next, &new.numbers, &new.statements, &new.lists);
+            words::put_desk(
+                desk,
+                new.next,
+                &new.numbers,
+                &new.statements,
+                &new.marks,
+                &new.lists,
+            );
             Answer::Done
         }
     }
@@ -76,16 +91,23 @@ pub fn next(data: &[u8], undo: &[u8], status: &[u8], desk: &mut Words, session: 
 
 // Commits a session: its status becomes 01, and it is closed.
 pub fn commit(data: &[u8], undo: &[u8], status: &mut [u8], desk: &mut Words, session: u64) -> Answer
-    ensures does { λ r. ⌜ Does (commitRule (areas (now («data» .entry)) (now (undo .entry)) (now (status .entry))) (deskIn (now (desk .entry))) session) (saidMoved r (now (desk .exit))) (now (status .exit)) ⌝ }
+    ensures does { λ r. ⌜ Does (commitRule (areas (now («data» .entry)) (now (undo .entry)) (now (status .entry))) (deskIn (now (desk .entry))) session) (said r (now (desk .exit))) (now (status .exit)) ⌝ }
     ensures desks { λ _. ⌜ Desks (now (desk .entry)) (now (desk .exit)) ⌝ }
 {
-    let a = admit::admit(data.len(), undo.len(), status.len(), desk, session);
+    let a = admit::admit_unspoiled(data.len(), undo.len(), status.len(), desk, session);
     match a {
         Admitted::Refused(answer) => answer,
         Admitted::At(k) => {
             status::put_status(status, session as usize, Status::Committed);
             let new = words::desk_in(desk).commit(k);
-            words::put_desk(desk, new.next, &new.numbers, &new.statements, &new.lists);
+            words::put_desk(
+                desk,
+                new.next,
+                &new.numbers,
+                &new.statements,
+                &new.marks,
+                &new.lists,
+            );
             Answer::Done
         }
     }

@@ -1,6 +1,6 @@
 -- The promises of withdraw: no second result meets its contract, and a refused call leaves the desk and the areas as they were
 -- ("01, When the desk says no"). Assumes nothing.
-use mathlib.Core.Path.{_≡_, refl, ap}
+use mathlib.Core.Path.{_≡_, refl}
 use mathlib.Core.List.{List}
 use Prim.Native.Nat.{ℕ}
 use lib.ListN.{length}
@@ -8,27 +8,24 @@ use Rattle.ground.specs.Does.{Does}
 use Rattle.ground.proofs.Once.{once}
 use Rattle.ground.proofs.Refusals.{settled}
 use Rattle.answer.specs.declared.Answer.{Answer}
-use Rattle.answer.proofs.Codes.{codeOf-injective}
 use Rattle.places.specs.Open.{placeIn}
 use Rattle.desk.specs.declared.Desk.{Desk}
 use Rattle.desk.specs.Turns.{closed}
 use Rattle.words.specs.Words.{all-words}
-use Rattle.words.proofs.Laws.{words-once}
 use Rattle.kind.specs.Areas.{Areas}
-use Rattle.undoing.specs.Undoing.{saidWithdrawn, withdrawRefusal, withdrawn, withdrawRule}
+use Rattle.admit.specs.Admit.{said}
+use Rattle.admit.proofs.Admissions.{said-once}
+use Rattle.undoing.specs.Undoing.{withdrawRefusal, withdrawn, withdrawRule}
 
 module _ (a : Areas) (d : Desk) (x : ℕ) where
   pub withdraw-once : (r r′ : Answer) (w w′ : List ℕ) (y y′ : Areas)
       → length w ≡ all-words
       → length w′ ≡ all-words
-      → Does (withdrawRule a d x) (saidWithdrawn r w) y
-      → Does (withdrawRule a d x) (saidWithdrawn r′ w′) y′
+      → Does (withdrawRule a d x) (said r w) y
+      → Does (withdrawRule a d x) (said r′ w′) y′
       → ((r ≡ r′) × (w ≡ w′)) × (y ≡ y′)
   withdraw-once r r′ w w′ y y′ long long′ p q =
-      let o = once p q in (
-        (codeOf-injective r r′ (ap (λ (z : ℕ × Desk). z .0) (o .0)), words-once w w′ long long′ (ap (λ (z : ℕ × Desk). z .1) (o .0))),
-        o .1,
-      )
+      let o = once p q in (said-once w w′ long long′ r r′ (o .0), o .1)
 
   pub withdraw-refused-leaves : (withdrawRule a d x .0 .0 ≡ 0 → ⊥) → (withdrawRule a d x .0 .1 ≡ d) × (withdrawRule a d x .1 ≡ a)
   unfolding withdrawRule

@@ -5,14 +5,11 @@ use mathlib.Core.Bool.{Bool, not, _&&_}
 use mathlib.Core.List.{List, [], _∷_}
 use Rattle.ground.specs.Refuse.{firstOf, settle}
 use Rattle.ground.specs.Range.{allBelow}
-use Rattle.answer.specs.declared.Answer.{Answer}
-use Rattle.answer.specs.Code.{codeOf}
 use Rattle.places.specs.Open.{placeIn, isOpen}
 use Rattle.desk.specs.declared.Desk.{Desk}
 use Rattle.desk.specs.Desk.{firstStatement}
 use Rattle.desk.specs.Sound.{sound}
 use Rattle.desk.specs.Turns.{closed}
-use Rattle.words.specs.Words.{deskIn}
 use Rattle.kind.specs.Kind.{rows}
 use Rattle.kind.specs.Areas.{Areas, areas, badLength, Both, both}
 use Rattle.status.specs.declared.Status.the-variants.{Withdrawn as StatusWithdrawn}
@@ -23,10 +20,6 @@ use Rattle.chain.specs.Chain.{chainOf}
 use Rattle.chain.specs.Walk.{firstIn}
 use Rattle.seeking.specs.Seeking.{isBroken}
 use Rattle.putback.specs.PutBack.{ownMade, undoneRow}
-
--- the paper's number and value of what withdraw answers, with the desk that its words say then
-abbrev pub saidWithdrawn : Answer → List ℕ → ℕ × Desk
-saidWithdrawn r w = (codeOf r, deskIn w)
 
 -- "a break met between a slot created by S and the first version not created by S": in row r
 unfoldable pub brokenRow : ℕ → ℕ → List ℕ → List ℕ → ℕ → Bool

@@ -11,7 +11,8 @@ ghost use Rattle.ground.specs.Does.{Does};
 ghost use Rattle.kind.specs.Kind.{rows};
 ghost use Rattle.kind.specs.Areas.{areas, both};
 ghost use Rattle.words.specs.Words.{deskIn, Desks};
-ghost use Rattle.undoing.specs.Undoing.{someBroken, undoneFrom, saidWithdrawn, withdrawRule};
+ghost use Rattle.admit.specs.Admit.{said};
+ghost use Rattle.undoing.specs.Undoing.{someBroken, undoneFrom, withdrawRule};
 
 // Whether in some row "a break [is] met between a slot created by S and the first version not created by S". A chain that leads to an
 // entry already passed goes round, until as many copies as there are entries were looked at.
@@ -75,7 +76,7 @@ pub fn withdraw(
     desk: &mut Words,
     session: u64,
 ) -> Answer
-    ensures does { λ r. ⌜ Does (withdrawRule (areas (now («data» .entry)) (now (undo .entry)) (now (status .entry))) (deskIn (now (desk .entry))) session) (saidWithdrawn r (now (desk .exit))) (areas (now («data» .exit)) (now (undo .exit)) (now (status .exit))) ⌝ }
+    ensures does { λ r. ⌜ Does (withdrawRule (areas (now («data» .entry)) (now (undo .entry)) (now (status .entry))) (deskIn (now (desk .entry))) session) (said r (now (desk .exit))) (areas (now («data» .exit)) (now (undo .exit)) (now (status .exit))) ⌝ }
     ensures desks { λ _. ⌜ Desks (now (desk .entry)) (now (desk .exit)) ⌝ }
 {
     let a = admit::admit(data.len(), undo.len(), status.len(), desk, session);
@@ -88,7 +89,14 @@ pub fn withdraw(
             undo_rows(data, undo, session, Desk::FIRST_STATEMENT);
             status::put_status(status, session as usize, Status::Withdrawn);
             let new = words::desk_in(desk).withdraw(k);
-            words::put_desk(desk, new.next, &new.numbers, &new.statements, &new.lists);
+            words::put_desk(
+                desk,
+                new.next,
+                &new.numbers,
+                &new.statements,
+                &new.marks,
+                &new.lists,
+            );
             Answer::Done
         }
     }

@@ -4,13 +4,13 @@ use mathlib.Core.Path.{_≡_, refl, sym, ap, ap₂, _∙_}
 use mathlib.Core.List.{List, [], _∷_, _++_, append-nil, append-assoc}
 use Prim.Native.Nat.{ℕ, _+_, _≤_}
 use native.Mathlib.Omega.{arith}
-use lib.ListN.{length, getD, set, take, drop, replicate, length-replicate, length-set, length-append, length-drop}
+use lib.ListN.{length, getD, set, take, drop, replicate, length-replicate, length-append, length-drop}
 use lib.ListN.{drop-of-length-le}
-use lib.Seq.{sets, paste, take-all, length-sets, sets-eq, take-at, drop-at, drop-append-add, set-split}
+use lib.Seq.{sets, paste, take-all, sets-eq, take-at, drop-at, drop-append-add, set-split}
 use Rattle.columns.specs.Limits.{sessions, places}
 use Rattle.columns.proofs.Columns.{part-end, paste-sets}
 use Rattle.desk.specs.declared.Desk.{Desk}
-use Rattle.words.specs.Words.{numbersAt, statementsAt, listsAt, all-words, deskIn}
+use Rattle.words.specs.Words.{numbersAt, statementsAt, marksAt, listsAt, all-words, deskOf, deskIn}
 
 -- ---- a column of n places, all of them copied
 
@@ -41,13 +41,14 @@ pasted n words at column i l long fits h past e =
 
 -- ---- the desk that words say
 
-pub desk-said : (w : List ℕ) (ns ss ls : List ℕ)
+pub desk-said : (w : List ℕ) (ns ss ms ls : List ℕ)
     → ns ≡ take sessions (drop numbersAt w)
     → ss ≡ take sessions (drop statementsAt w)
+    → ms ≡ take sessions (drop marksAt w)
     → ls ≡ take places (drop listsAt w)
-    → _≡_ {A = Desk} (record { next = getD w 0 0; numbers = ns; statements = ss; lists = ls }) (deskIn w)
+    → _≡_ {A = Desk} (deskOf (getD w 0 0) ns ss ms ls) (deskIn w)
 unfolding deskIn
-desk-said w ns ss ls n s l = λ i. record { next = getD w 0 0; numbers = n i; statements = s i; lists = l i }
+desk-said w ns ss ms ls n s m l = λ i. deskOf (getD w 0 0) (n i) (s i) (m i) (l i)
 
 -- ---- columns one behind the other
 
@@ -65,66 +66,86 @@ sets-behind done rest vs at n here long fits =
     (take-at done rest at here)
     (ap (λ (k : ℕ). drop k (done ++ rest)) behind ∙ drop-append-add done rest n)
 
--- words keep their number: with next stored, then the numbers, then the statements
-module _ (d : Desk) (w : List ℕ) where
-  pub first-long : length w ≡ all-words → length (set w 0 (d .next)) ≡ all-words
-  first-long e = length-set w 0 (d .next) ∙ e
+module _ (x : ℕ) (ns ss ms ls : List ℕ) (n16 : length ns ≡ sessions) (s16 : length ss ≡ sessions) (m16 : length ms ≡ sessions) (l240 : length ls ≡ places) where
+  pub columns-long : length (x ∷ (ns ++ ss ++ ms ++ ls)) ≡ all-words
+  columns-long = omega (arith, length-append (ns ++ ss ++ ms) ls, length-append (ns ++ ss) ms, length-append ns ss)
 
-  pub numbers-long : (l : List ℕ) → length w ≡ all-words → l ≡ sets (set w 0 (d .next)) numbersAt (d .numbers) → length l ≡ all-words
-  numbers-long l e q = ap length q ∙ length-sets (set w 0 (d .next)) numbersAt (d .numbers) ∙ first-long e
-
-  pub statements-long : (l m : List ℕ)
-      → length w ≡ all-words
-      → l ≡ sets (set w 0 (d .next)) numbersAt (d .numbers)
-      → m ≡ sets l statementsAt (d .statements)
-      → length m ≡ all-words
-  statements-long l m e q r = ap length r ∙ length-sets l statementsAt (d .statements) ∙ numbers-long l e q
-
-module _ (x : ℕ) (ns ss ls : List ℕ) (n16 : length ns ≡ sessions) (s16 : length ss ≡ sessions) (l240 : length ls ≡ places) where
-  pub columns-long : length (x ∷ (ns ++ ss ++ ls)) ≡ all-words
-  columns-long = omega (arith, length-append (ns ++ ss) ls, length-append ns ss)
-
-  -- next and the three columns, stored in words
-  pub columns-stored : (w : List ℕ) → length w ≡ all-words → sets (sets (sets (set w 0 x) numbersAt ns) statementsAt ss) listsAt ls ≡ x ∷ (ns ++ ss ++ ls)
-  columns-stored w long = first ∙ second ∙ third ∙ last
+  -- next and the four columns, stored in words
+  pub columns-stored : (w : List ℕ) → length w ≡ all-words
+      → sets (sets (sets (sets (set w 0 x) numbersAt ns) statementsAt ss) marksAt ms) listsAt ls ≡ x ∷ (ns ++ ss ++ ms ++ ls)
+  columns-stored w long = first ∙ second ∙ third ∙ fourth ∙ last
     where
+      -- what is left behind next, behind the numbers, the statements and the marks
       rest : List ℕ
       rest = drop numbersAt w
 
-      first : sets (sets (sets (set w 0 x) numbersAt ns) statementsAt ss) listsAt ls ≡ sets (sets ((x ∷ []) ++ ns ++ drop sessions rest) statementsAt ss) listsAt ls
+      rest-2 : List ℕ
+      rest-2 = drop sessions rest
+
+      rest-3 : List ℕ
+      rest-3 = drop sessions rest-2
+
+      rest-4 : List ℕ
+      rest-4 = drop sessions rest-3
+
+      long-1 : length rest ≡ 288
+      long-1 = omega (arith, length-drop numbersAt w)
+
+      long-2 : length rest-2 ≡ 272
+      long-2 = omega (arith, length-drop sessions rest, long-1)
+
+      long-3 : length rest-3 ≡ 256
+      long-3 = omega (arith, length-drop sessions rest-2, long-2)
+
+      long-4 : length rest-4 ≡ 240
+      long-4 = omega (arith, length-drop sessions rest-3, long-3)
+
+      first : sets (sets (sets (sets (set w 0 x) numbersAt ns) statementsAt ss) marksAt ms) listsAt ls
+          ≡ sets (sets (sets ((x ∷ []) ++ ns ++ rest-2) statementsAt ss) marksAt ms) listsAt ls
       first =
-          ap (λ (l : List ℕ). sets (sets l statementsAt ss) listsAt ls)
+          ap (λ (l : List ℕ). sets (sets (sets l statementsAt ss) marksAt ms) listsAt ls)
           (ap (λ (l : List ℕ). sets l numbersAt ns) (set-split w 0 x (omega arith))
-          ∙ sets-behind (x ∷ []) rest ns numbersAt sessions refl n16 (omega (arith, length-drop numbersAt w)))
+          ∙ sets-behind (x ∷ []) rest ns numbersAt sessions refl n16 (omega (arith, long-1)))
 
-      second : sets (sets ((x ∷ []) ++ ns ++ drop sessions rest) statementsAt ss) listsAt ls ≡ sets ((x ∷ []) ++ ns ++ ss ++ drop sessions (drop sessions rest)) listsAt ls
+      second : sets (sets (sets ((x ∷ []) ++ ns ++ rest-2) statementsAt ss) marksAt ms) listsAt ls
+          ≡ sets (sets ((x ∷ []) ++ ns ++ ss ++ rest-3) marksAt ms) listsAt ls
       second =
-          ap (λ (l : List ℕ). sets l listsAt ls)
-          (sets-behind ((x ∷ []) ++ ns) (drop sessions rest) ss statementsAt sessions (omega arith) s16 (omega (arith, length-drop numbersAt w, length-drop sessions rest)))
+          ap (λ (l : List ℕ). sets (sets l marksAt ms) listsAt ls)
+          (sets-behind ((x ∷ []) ++ ns) rest-2 ss statementsAt sessions (omega arith) s16 (omega (arith, long-2)))
 
-      third : sets ((x ∷ []) ++ ns ++ ss ++ drop sessions (drop sessions rest)) listsAt ls ≡ (x ∷ []) ++ ns ++ ss ++ ls ++ drop places (drop sessions (drop sessions rest))
+      third : sets (sets ((x ∷ []) ++ ns ++ ss ++ rest-3) marksAt ms) listsAt ls ≡ sets ((x ∷ []) ++ ns ++ ss ++ ms ++ rest-4) listsAt ls
       third =
-          sets-behind ((x ∷ []) ++ ns ++ ss) (drop sessions (drop sessions rest)) ls listsAt places (omega (arith, length-append ns ss)) l240
-          (omega (arith, length-drop numbersAt w, length-drop sessions rest, length-drop sessions (drop sessions rest)))
+          ap (λ (l : List ℕ). sets l listsAt ls)
+          (sets-behind ((x ∷ []) ++ ns ++ ss) rest-3 ms marksAt sessions (omega (arith, length-append ns ss)) m16 (omega (arith, long-3)))
 
-      last : (x ∷ []) ++ ns ++ ss ++ ls ++ drop places (drop sessions (drop sessions rest)) ≡ x ∷ (ns ++ ss ++ ls)
+      fourth : sets ((x ∷ []) ++ ns ++ ss ++ ms ++ rest-4) listsAt ls ≡ (x ∷ []) ++ ns ++ ss ++ ms ++ ls ++ drop places rest-4
+      fourth =
+          sets-behind ((x ∷ []) ++ ns ++ ss ++ ms) rest-4 ls listsAt places (omega (arith, length-append (ns ++ ss) ms, length-append ns ss)) l240 (omega (arith, long-4))
+
+      last : (x ∷ []) ++ ns ++ ss ++ ms ++ ls ++ drop places rest-4 ≡ x ∷ (ns ++ ss ++ ms ++ ls)
       last =
-          ap (λ (l : List ℕ). (x ∷ []) ++ ns ++ ss ++ ls ++ l)
-          (drop-of-length-le (drop sessions (drop sessions rest)) {i = places}
-          (omega (arith, length-drop numbersAt w, length-drop sessions rest, length-drop sessions (drop sessions rest))))
-          ∙ append-nil ((x ∷ []) ++ ns ++ ss ++ ls)
+          ap (λ (l : List ℕ). (x ∷ []) ++ ns ++ ss ++ ms ++ ls ++ l) (drop-of-length-le rest-4 {i = places} (omega (arith, long-4)))
+          ∙ append-nil ((x ∷ []) ++ ns ++ ss ++ ms ++ ls)
 
   -- and each of them read back
-  pub numbers-back : take sessions (drop numbersAt (x ∷ (ns ++ ss ++ ls))) ≡ ns
-  numbers-back = ap (take sessions) (append-assoc ns ss ls) ∙ take-at ns (ss ++ ls) sessions n16
+  pub numbers-back : take sessions (drop numbersAt (x ∷ (ns ++ ss ++ ms ++ ls))) ≡ ns
+  numbers-back =
+      ap (take sessions) (append-assoc (ns ++ ss) ms ls ∙ append-assoc ns ss (ms ++ ls)) ∙ take-at ns (ss ++ (ms ++ ls)) sessions n16
 
-  pub statements-back : take sessions (drop statementsAt (x ∷ (ns ++ ss ++ ls))) ≡ ss
+  pub statements-back : take sessions (drop statementsAt (x ∷ (ns ++ ss ++ ms ++ ls))) ≡ ss
   statements-back =
-      ap (λ (l : List ℕ). take sessions (drop statementsAt (x ∷ l))) (append-assoc ns ss ls)
-      ∙ ap (take sessions) (drop-at (x ∷ ns) (ss ++ ls) statementsAt (omega arith))
-      ∙ take-at ss ls sessions s16
+      ap (λ (l : List ℕ). take sessions (drop statementsAt (x ∷ l))) (append-assoc (ns ++ ss) ms ls ∙ append-assoc ns ss (ms ++ ls))
+      ∙ ap (take sessions) (drop-at (x ∷ ns) (ss ++ (ms ++ ls)) statementsAt (omega arith))
+      ∙ take-at ss (ms ++ ls) sessions s16
 
-  pub lists-back : take places (drop listsAt (x ∷ (ns ++ ss ++ ls))) ≡ ls
+  pub marks-back : take sessions (drop marksAt (x ∷ (ns ++ ss ++ ms ++ ls))) ≡ ms
+  marks-back =
+      ap (λ (l : List ℕ). take sessions (drop marksAt (x ∷ l))) (append-assoc (ns ++ ss) ms ls)
+      ∙ ap (take sessions) (drop-at (x ∷ (ns ++ ss)) (ms ++ ls) marksAt (omega (arith, length-append ns ss)))
+      ∙ take-at ms ls sessions m16
+
+  pub lists-back : take places (drop listsAt (x ∷ (ns ++ ss ++ ms ++ ls))) ≡ ls
   lists-back =
-      ap (take places) (drop-at (x ∷ (ns ++ ss)) ls listsAt (omega (arith, length-append ns ss)) ∙ sym (append-nil ls))
+      ap (take places)
+      (drop-at (x ∷ (ns ++ ss ++ ms)) ls listsAt (omega (arith, length-append (ns ++ ss) ms, length-append ns ss)) ∙ sym (append-nil ls))
       ∙ take-at ls [] places l240

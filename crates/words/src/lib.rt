@@ -13,10 +13,11 @@ ghost use Rattle.columns.specs.Limits.{sessions, members, places};
 ghost use Rattle.columns.specs.Columns.{usedIn, usedOf};
 ghost use Rattle.places.specs.Open.{openCount, placeIn};
 ghost use Rattle.desk.specs.Sound.{sound};
-ghost use Rattle.desk.specs.Turns.{viewAt, mark as mark·spec};
-ghost use Rattle.words.specs.Words.{all-words, deskOf, deskIn, wordsOf};
+ghost use Rattle.desk.specs.Turns.{viewAt, spoiledAt, spoiled, mark as mark·spec};
+ghost use Rattle.words.specs.Words.{numbersAt, statementsAt, marksAt, all-words, deskOf, deskIn, wordsOf};
 
-// Where the columns begin among the words: the next number is the first, and behind it come the numbers, the statements and the lists.
+// Where the columns begin among the words: the next number is the first, and behind it come the numbers, the statements,
+// the marks and the lists.
 pub struct Layout;
 
 impl Layout {
@@ -24,7 +25,9 @@ impl Layout {
 
     pub const STATEMENTS: usize = Layout::NUMBERS + Limits::SESSIONS;
 
-    pub const LISTS: usize = Layout::STATEMENTS + Limits::SESSIONS;
+    pub const MARKS: usize = Layout::STATEMENTS + Limits::SESSIONS;
+
+    pub const LISTS: usize = Layout::MARKS + Limits::SESSIONS;
     // How many words there are.
     pub const WORDS: usize = Layout::LISTS + Limits::PLACES;
 }
@@ -39,7 +42,8 @@ pub fn is_sound(words: &[u32]) -> bool
     desk::columns_sound(
         words[0],
         &words[Layout::NUMBERS..Layout::STATEMENTS],
-        &words[Layout::STATEMENTS..Layout::LISTS],
+        &words[Layout::STATEMENTS..Layout::MARKS],
+        &words[Layout::MARKS..Layout::LISTS],
         &words[Layout::LISTS..Layout::WORDS],
     )
 }
@@ -74,6 +78,22 @@ pub fn statement(words: &[u32], k: usize) -> u32
     ensures { λ r. ⌜ r ≡ getD (deskIn (now (words .entry)) .statements) k 0 ⌝ }
 {
     words[Layout::STATEMENTS + k]
+}
+
+// Whether the session at place k is spoiled.
+pub fn is_spoiled(words: &[u32], k: usize) -> bool
+    requires { ⌜ (length (now words) ≡ all-words) × (k < sessions) ⌝ }
+    ensures { λ r. ⌜ r ≡ spoiledAt k (deskIn (now (words .entry))) ⌝ }
+{
+    words[Layout::MARKS + k] == Limits::SPOILED
+}
+
+// "the desk marks that session spoiled": the one at place k. This one word changes.
+pub fn spoil(words: &mut [u32], k: usize)
+    requires { ⌜ (length (now words) ≡ all-words) × (k < sessions) ⌝ }
+    ensures { λ _. ⌜ (deskIn (now (words .exit)) ≡ spoiled k (deskIn (now (words .entry)))) × (length (now (words .exit)) ≡ all-words) ⌝ }
+{
+    words[Layout::MARKS + k] = Limits::SPOILED;
 }
 
 // How many places of a list are used, before the first unused one.
@@ -149,11 +169,13 @@ pub fn desk_in(words: &[u32]) -> Desk
 {
     let numbers = column_in(words, Layout::NUMBERS);
     let statements = column_in(words, Layout::STATEMENTS);
+    let marks = column_in(words, Layout::MARKS);
     let lists = lists_in(words, Layout::LISTS);
     Desk {
         next: words[0],
         numbers,
         statements,
+        marks,
         lists,
     }
 }
@@ -169,20 +191,36 @@ fn put_part(words: &mut [u32], at: usize, part: &[u32])
     }
 }
 
+// Writes the columns that have a place for each session, one behind the other. Each has 16.
+fn put_columns<'a>(
+    words: &mut [u32],
+    numbers: &'a Column,
+    statements: &'a Column,
+    marks: &'a Column,
+)
+    requires { ⌜ length (now words) ≡ all-words ⌝ }
+    ensures stored { λ _. ⌜ now (words .exit) ≡ sets (sets (sets (now (words .entry)) numbersAt (now (numbers .entry))) statementsAt (now (statements .entry))) marksAt (now (marks .entry)) ⌝ }
+    ensures long { λ _. ⌜ (length (now (numbers .entry)) ≡ sessions) × (length (now (statements .entry)) ≡ sessions) × (length (now (marks .entry)) ≡ sessions) ⌝ }
+{
+    put_part(words, Layout::NUMBERS, numbers);
+    put_part(words, Layout::STATEMENTS, statements);
+    put_part(words, Layout::MARKS, marks);
+}
+
 // Writes a desk, lent by its columns, as words, which say that desk.
 pub fn put_desk<'a>(
     words: &mut [u32],
     next: u32,
     numbers: &'a Column,
     statements: &'a Column,
+    marks: &'a Column,
     lists: &'a Lists,
 )
     requires { ⌜ length (now words) ≡ all-words ⌝ }
-    ensures { λ _. ⌜ (now (words .exit) ≡ wordsOf (deskOf next (now (numbers .entry)) (now (statements .entry)) (now (lists .entry)))) × (deskIn (now (words .exit)) ≡ deskOf next (now (numbers .entry)) (now (statements .entry)) (now (lists .entry))) ⌝ }
+    ensures { λ _. ⌜ (now (words .exit) ≡ wordsOf (deskOf next (now (numbers .entry)) (now (statements .entry)) (now (marks .entry)) (now (lists .entry)))) × (deskIn (now (words .exit)) ≡ deskOf next (now (numbers .entry)) (now (statements .entry)) (now (marks .entry)) (now (lists .entry))) ⌝ }
 {
     words[0] = next;
-    put_part(words, Layout::NUMBERS, numbers);
-    put_part(words, Layout::STATEMENTS, statements);
+    put_columns(words, numbers, statements, marks);
     put_part(words, Layout::LISTS, lists);
 }
 
@@ -196,6 +234,7 @@ pub fn words_of(desk: Desk) -> Words
         desk.next,
         &desk.numbers,
         &desk.statements,
+        &desk.marks,
         &desk.lists,
     );
     words

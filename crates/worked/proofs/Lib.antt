@@ -1,2 +1,4 @@
+pub mod Zeros
 pub mod Sweeps
+pub mod Withdrawals
 pub mod Worked

@@ -1,4 +1,5 @@
--- The paper's whole worked run ("01, The script and one whole run"): where it starts, its lines and what each answers. Assumes nothing.
+-- The paper's whole worked run ("01, The script and one whole run"): where it starts, its lines and what each answers. "In the script run
+-- `commit 3` becomes 18, and the second sweep then needs a `withdraw 3` before it" ("02, T-07"). Assumes nothing.
 use Prim.Native.Nat.{ℕ}
 use Prim.Native.Char.{code}
 use Prim.Native.String.{String, [] as none, _∷_ as _then_}
@@ -35,7 +36,8 @@ run =
     ∷ (bytes "read\t3\t0", bytes "0\t2\t" ++ Z)
     ∷ (bytes "delete\t3\t0", bytes "10")
     ∷ (bytes "sweep\t0\t127", bytes "0\t127\t0")
-    ∷ (bytes "commit\t3", bytes "0")
+    ∷ (bytes "commit\t3", bytes "18")
+    ∷ (bytes "withdraw\t3", bytes "0")
     ∷ (bytes "sweep\t0\t127", bytes "0\t127\t1")
     ∷ (bytes "begin", bytes "0\t4")
     ∷ (bytes "read\t4\t0", bytes "0\t1\t" ++ F)

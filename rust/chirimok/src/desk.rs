@@ -7,7 +7,8 @@ use crate::limits::{MEMBERS, SESSIONS, WORDS};
 
 const NUMBERS: usize = 1;
 const STATEMENTS: usize = NUMBERS + SESSIONS;
-const LISTS: usize = STATEMENTS + SESSIONS;
+const MARKS: usize = STATEMENTS + SESSIONS;
+const LISTS: usize = MARKS + SESSIONS;
 
 /// The session record that goes into each call (01, Sessions and sight). A [`Store`](crate::Store)
 /// gets its desk from format or open and keeps it beside the areas. It can be looked at there,
@@ -52,6 +53,9 @@ pub struct OpenSession<'d> {
     pub number: Session,
     /// The statement in which it is.
     pub statement: u32,
+    /// Whether it lost a conflict: it can read and [withdraw](crate::Store::withdraw), and nothing
+    /// else ([`SessionSpoiled`](crate::Refusal::SessionSpoiled)).
+    pub spoiled: bool,
     /// The numbers that were open when it began, ascending.
     pub list: &'d [u32],
 }
@@ -66,7 +70,8 @@ impl Desk {
         Self(words)
     }
 
-    /// The desk's words: next, 16 numbers, 16 statements, 16 lists of 15.
+    /// The desk's words: next, 16 numbers, 16 statements, 16 marks (1 where the session is spoiled),
+    /// 16 lists of 15.
     pub const fn words(&self) -> &[u32; WORDS] {
         &self.0
     }
@@ -83,13 +88,16 @@ impl Desk {
 
     /// The open sessions, ascending by number.
     pub fn sessions(&self) -> impl Iterator<Item = OpenSession<'_>> {
-        let (numbers, statements) = (&self.0[NUMBERS..STATEMENTS], &self.0[STATEMENTS..LISTS]);
-        let lists = self.0[LISTS..].chunks_exact(MEMBERS);
-        let places = numbers.iter().zip(statements).zip(lists);
-        places.take_while(|((number, _), _)| **number != 0).map(|((&number, &statement), list)| {
+        let numbers = self.0[NUMBERS..STATEMENTS].iter();
+        numbers.take_while(|&&number| number != 0).enumerate().map(|(place, &number)| {
+            let list = &self.0[LISTS + place * MEMBERS..][..MEMBERS];
             let used = list.iter().position(|&member| member == 0).unwrap_or(MEMBERS);
-            let number = Session::from_number(number.into());
-            OpenSession { number, statement, list: &list[..used] }
+            OpenSession {
+                number: Session::from_number(number.into()),
+                statement: self.0[STATEMENTS + place],
+                spoiled: self.0[MARKS + place] != 0,
+                list: &list[..used],
+            }
         })
     }
 }

@@ -2,7 +2,7 @@
 //! `unsafe`: what each function may read and write is in the types of the safe ones.
 //!
 //! Each answers the refusal number, 0 for done. On a refusal the out array is zeros, and areas and
-//! desk are unchanged.
+//! desk are unchanged, but that 10 of update and delete sets the session's mark at the desk.
 
 use crate::limits::WORDS;
 
@@ -100,10 +100,10 @@ functions! {
         const body, out: &mut [u64; 1]
     );
     update = chirimok_update(
-        mut data, mut undo, const status, desk: &Words, session: u64, row: u64; const body
+        mut data, mut undo, const status, desk: &mut Words, session: u64, row: u64; const body
     );
     delete = chirimok_delete(
-        mut data, const undo, const status, desk: &Words, session: u64, row: u64
+        mut data, const undo, const status, desk: &mut Words, session: u64, row: u64
     );
     read = chirimok_read(
         const data, const undo, const status, desk: &Words, session: u64, row: u64,

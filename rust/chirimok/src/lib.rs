@@ -4,8 +4,9 @@
 //! its open sessions ([`Desk`]) beside them. It comes from [`Store::format`], or from
 //! [`Store::open`] once it was sealed. Who works in it is a [`Session`]; what is written is a
 //! [`Row`] of 32 bytes. A refused call says why ([`Refusal`]) and leaves areas and desk as they
-//! were. A reading lies where it was found: [`Store::read`] hands back a part of the area and no
-//! copy.
+//! were, but for one mark: a session that lost a conflict ([`Refusal::WriterCommitted`]) can only
+//! read and withdraw from then on. A reading lies where it was found: [`Store::read`] hands back a
+//! part of the area and no copy.
 //!
 //! ```
 //! # fn main() -> Result<(), chirimok::Refusal> {

@@ -27,5 +27,5 @@ pub const LAST_STATEMENT: u32 = 65_535;
 /// Most numbers in a session's list: all others that can be open when it begins.
 pub(crate) const MEMBERS: usize = SESSIONS - 1;
 
-/// Words in a desk: next, the sessions' numbers, their statements, their lists.
-pub const WORDS: usize = 1 + SESSIONS + SESSIONS + SESSIONS * MEMBERS;
+/// Words in a desk: next, the sessions' numbers, their statements, their marks, their lists.
+pub const WORDS: usize = 1 + SESSIONS + SESSIONS + SESSIONS + SESSIONS * MEMBERS;

@@ -4,8 +4,9 @@ use std::error::Error;
 use std::fmt;
 
 /// Why a call did nothing, with the numbers of 01, "When the desk says no", and of document 02, and
-/// what a station does about it. Number 16 is no refusal of a call: the script's program answers it
-/// to a line that is ill formed.
+/// what a station does about it. One refusal leaves something behind:
+/// [`WriterCommitted`](Self::WriterCommitted) marks its session at the desk. Number 16 is no refusal
+/// of a call: the script's program answers it to a line that is ill formed.
 #[derive(Clone, Copy, Debug, PartialEq, Eq)]
 #[non_exhaustive]
 #[repr(u32)]
@@ -13,14 +14,15 @@ pub enum Refusal {
     /// An area's length isn't allowed. Lend whole pages of 8,192 bytes: 1 to 64 of data, 1 to 64 of
     /// undo, exactly 1 of status.
     AreaLength = 1,
-    /// The desk is unsound: words were kept that are not a desk's. Go on with those of the last
-    /// accepted call; where they are lost, open the areas as they were sealed last.
+    /// The desk is unsound: words were kept that are not a desk's. Go on with those that the last
+    /// call left; where they are lost, open the areas as they were sealed last.
     UnsoundDesk = 2,
     /// Open found a wrong header field or a number that isn't closed: the areas hold no store, are
     /// damaged, were not sealed after the last write, or were sealed before version 1.1 of the
     /// library (the header's `CHIRIMOK_VERSION`). Those are opened by the release that sealed them,
-    /// and sealed by this one with the [words](crate::Store::from_kept_words) of the desk that it
-    /// made. Else open another copy that was sealed; format begins an empty store.
+    /// and sealed by this one with [words](crate::Store::from_kept_words) that are all 0 but for the
+    /// first, the next number of the desk that it made. Else open another copy that was sealed;
+    /// format begins an empty store.
     UnsoundStore = 3,
     /// The session is not open: it is closed, or was never begun here. Begin one.
     SessionNotOpen = 4,
@@ -42,8 +44,10 @@ pub enum Refusal {
     /// withdrawal the row can be written, after its commit the answer is
     /// [`WriterCommitted`](Self::WriterCommitted).
     WriterInWork = 9,
-    /// A writer of the row whom the session does not see is committed. This session cannot write
-    /// the row any more: withdraw it and begin another, or go on with other rows.
+    /// A writer of the row whom the session does not see is committed. The session lost the conflict
+    /// and is spoiled from now on, the one thing that a refused call changes: it can read on what it
+    /// read, and is then withdrawn. Begin another. Every other change that it tries, and its commit,
+    /// answers [`SessionSpoiled`](Self::SessionSpoiled).
     WriterCommitted = 10,
     /// No empty slot (insert), or no free undo entry (update). Sweep all rows and try again; if
     /// nothing went, end the oldest session and sweep again. With no session open, a sweep frees
@@ -68,10 +72,16 @@ pub enum Refusal {
     /// can still be read. It stands between [`BrokenChain`](Self::BrokenChain) and
     /// [`NoVersion`](Self::NoVersion) where several refusals apply.
     ReservedStatus = 17,
+    /// The session is spoiled: an update or delete of it was answered
+    /// [`WriterCommitted`](Self::WriterCommitted) before, and what it would approve rests on rows
+    /// that another has changed since. It can still read. Withdraw it and begin another, which sees
+    /// the change. It stands directly behind [`SessionNotOpen`](Self::SessionNotOpen) where several
+    /// refusals apply.
+    SessionSpoiled = 18,
 }
 
 impl Refusal {
-    const ALL: [Self; 16] = [
+    const ALL: [Self; 17] = [
         Self::AreaLength,
         Self::UnsoundDesk,
         Self::UnsoundStore,
@@ -88,6 +98,7 @@ impl Refusal {
         Self::StatementsUsedUp,
         Self::SessionOpen,
         Self::ReservedStatus,
+        Self::SessionSpoiled,
     ];
 
     /// The number that document 01 or 02 gives this refusal.
@@ -121,6 +132,7 @@ impl Refusal {
             Self::StatementsUsedUp => "the session is in its last statement",
             Self::SessionOpen => "a session is open",
             Self::ReservedStatus => "a number that the row names has the reserved status",
+            Self::SessionSpoiled => "the session lost a conflict and is spoiled",
         }
     }
 }

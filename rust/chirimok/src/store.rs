@@ -16,7 +16,9 @@ use crate::{Desk, Refusal, Row, Session, ffi};
 /// Each call checks the lengths and the desk first: every call can answer [`Refusal::AreaLength`],
 /// and every one but format and open [`Refusal::UnsoundDesk`]. A store that came from format or
 /// open never answers these two. The other refusals are listed at each call. Where several apply,
-/// the lowest number is given, but that 17, [`Refusal::ReservedStatus`], stands between 6 and 7.
+/// the lowest number is given, but that 17, [`Refusal::ReservedStatus`], stands between 6 and 7, and
+/// 18, [`Refusal::SessionSpoiled`], directly behind 4. A refused call leaves areas and desk as they
+/// were; alone 10, [`Refusal::WriterCommitted`], of update and delete marks its session at the desk.
 /// How many pages a store has is not kept in its areas: open as many as were formatted.
 ///
 /// # One desk for one store
@@ -173,7 +175,7 @@ impl<A: AsRef<[u8]> + AsMut<[u8]>> Store<A> {
     }
 
     /// Moves the session on to its next statement, in which it finds what it wrote before.
-    /// [`Refusal::SessionNotOpen`], [`Refusal::StatementsUsedUp`].
+    /// [`Refusal::SessionNotOpen`], [`Refusal::SessionSpoiled`], [`Refusal::StatementsUsedUp`].
     pub fn next(&mut self, session: Session) -> Result<(), Refusal> {
         let Self { data, undo, status, desk } = self;
         let (words, session) = (desk.words_mut(), session.number());
@@ -181,7 +183,8 @@ impl<A: AsRef<[u8]> + AsMut<[u8]>> Store<A> {
     }
 
     /// Writes a body of 32 bytes into the lowest empty slot and answers its row.
-    /// [`Refusal::SessionNotOpen`], [`Refusal::RowOrBody`], [`Refusal::NoRoom`].
+    /// [`Refusal::SessionNotOpen`], [`Refusal::SessionSpoiled`], [`Refusal::RowOrBody`],
+    /// [`Refusal::NoRoom`].
     pub fn insert(&mut self, session: Session, body: &[u8]) -> Result<Row, Refusal> {
         let Self { data, undo, status, desk } = self;
         let (data, undo, status) = (data.as_mut(), undo.as_ref(), status.as_ref());
@@ -191,26 +194,27 @@ impl<A: AsRef<[u8]> + AsMut<[u8]>> Store<A> {
             .map(|()| Row::from_number(out[0]))
     }
 
-    /// Replaces the row's body and keeps the old one for those who still read it. Numbers 4 to 6,
-    /// 17 and 7 to 11 of [`Refusal`], in this order.
+    /// Replaces the row's body and keeps the old one for those who still read it. Numbers 4, 18, 5,
+    /// 6, 17 and 7 to 11 of [`Refusal`], in this order. After 10 the session is spoiled.
     pub fn update(&mut self, session: Session, row: Row, body: &[u8]) -> Result<(), Refusal> {
         let Self { data, undo, status, desk } = self;
         let (data, undo, status) = (data.as_mut(), undo.as_mut(), status.as_ref());
         let (session, row) = (session.number(), row.number());
-        answered(ffi::update(data, undo, status, desk.words(), session, row, body))
+        answered(ffi::update(data, undo, status, desk.words_mut(), session, row, body))
     }
 
     /// Deletes the row for the session's later statements and, once it commits, for all who begin
-    /// after. Numbers 4 to 6, 17 and 7 to 10 of [`Refusal`], in this order.
+    /// after. Numbers 4, 18, 5, 6, 17 and 7 to 10 of [`Refusal`], in this order. After 10 the session
+    /// is spoiled.
     pub fn delete(&mut self, session: Session, row: Row) -> Result<(), Refusal> {
         let Self { data, undo, status, desk } = self;
         let (data, undo, status) = (data.as_mut(), undo.as_ref(), status.as_ref());
         let (session, row) = (session.number(), row.number());
-        answered(ffi::delete(data, undo, status, desk.words(), session, row))
+        answered(ffi::delete(data, undo, status, desk.words_mut(), session, row))
     }
 
-    /// Finds the version of the row that is there for the session. Numbers 4 to 6, 17 and 7 of
-    /// [`Refusal`], in this order.
+    /// Finds the version of the row that is there for the session, spoiled or not. Numbers 4 to 6, 17
+    /// and 7 of [`Refusal`], in this order.
     pub fn read(&self, session: Session, row: Row) -> Result<Reading<'_>, Refusal> {
         let (data, undo, status) = (self.data(), self.undo(), self.status());
         let (session, row) = (session.number(), row.number());
@@ -222,15 +226,16 @@ impl<A: AsRef<[u8]> + AsMut<[u8]>> Store<A> {
         Ok(Reading { count, body: body.expect("the library answers where a body lies") })
     }
 
-    /// Closes the session; those who begin later see what it wrote. [`Refusal::SessionNotOpen`].
+    /// Closes the session; those who begin later see what it wrote. [`Refusal::SessionNotOpen`],
+    /// [`Refusal::SessionSpoiled`].
     pub fn commit(&mut self, session: Session) -> Result<(), Refusal> {
         let Self { data, undo, status, desk } = self;
         let (words, session) = (desk.words_mut(), session.number());
         answered(ffi::commit(data.as_ref(), undo.as_ref(), status.as_mut(), words, session))
     }
 
-    /// Takes back what the session wrote, and closes it. [`Refusal::SessionNotOpen`],
-    /// [`Refusal::BrokenChain`].
+    /// Takes back what the session wrote, and closes it, spoiled or not.
+    /// [`Refusal::SessionNotOpen`], [`Refusal::BrokenChain`].
     pub fn withdraw(&mut self, session: Session) -> Result<(), Refusal> {
         let Self { data, undo, status, desk } = self;
         let (words, session) = (desk.words_mut(), session.number());

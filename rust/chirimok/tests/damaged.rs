@@ -15,7 +15,8 @@ const PAGE: usize = 8192;
 /// Where the desk's columns begin among its words.
 const NUMBERS: usize = 1;
 const STATEMENTS: usize = 17;
-const LISTS: usize = 33;
+const MARKS: usize = 33;
+const LISTS: usize = 49;
 
 fn insert(session: u64) -> Call {
     Call::Insert { session, body: vec![7; 32] }
@@ -106,6 +107,10 @@ const UNSOUND: &[(&str, Change)] = &[
     ("a statement of 2^32 - 1", |w| w[STATEMENTS + 2] = u32::MAX),
     ("an unused place with a statement", |w| w[STATEMENTS + 3] = 1),
     ("the last unused place with a statement", |w| w[STATEMENTS + 15] = 1),
+    ("a mark of 2", |w| w[MARKS + 2] = 2),
+    ("a mark of 2^32 - 1", |w| w[MARKS] = u32::MAX),
+    ("an unused place with a mark", |w| w[MARKS + 3] = 1),
+    ("the last unused place with a mark", |w| w[MARKS + 15] = 1),
     ("an unused place with a list", |w| w[LISTS + 3 * 15] = 1),
     ("a member at its own number", |w| w[LISTS + 15 + 1] = 4),
     ("a member above its own number", |w| w[LISTS + 15 + 1] = 5),
@@ -197,7 +202,8 @@ fn a_wrong_status_page_is_3() {
     status("number 6, above the highest, has status 11", 0, |s| s[49] |= 0b0011_0000);
 }
 
-/// "Lowest number first, among those that the call can give"; where 17 stands is in `reserved.rs`.
+/// "Lowest number first, among those that the call can give"; where 17 stands is in `reserved.rs`,
+/// and where 18 stands in `spoiled.rs`.
 #[test]
 fn the_lowest_of_two_causes_is_given() {
     let working = working();

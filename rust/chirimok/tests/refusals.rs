@@ -1,15 +1,16 @@
 //! The wrapper's own types: refusal numbers and the desk's accessors.
 
 use chirimok::limits::{PAGE, WORDS};
-use chirimok::{Refusal, Row, Session, Store};
+use chirimok::{OpenSession, Refusal, Row, Session, Store};
 
-/// 1 to 15, and 17 of 02, T-05; 0 is done, and 16 is a line of a script that is ill formed.
+/// 1 to 15, 17 of 02, T-05, and 18 of T-07; 0 is done, and 16 is a line of a script that is ill
+/// formed.
 #[test]
 fn refusals_have_their_numbers() {
-    for number in (1..=15).chain([17]) {
+    for number in (1..=15).chain([17, 18]) {
         assert_eq!(Refusal::from_number(number).map(Refusal::number), Some(number));
     }
-    for number in [0, 16, 18] {
+    for number in [0, 16, 19] {
         assert_eq!(Refusal::from_number(number), None);
     }
 }
@@ -26,12 +27,14 @@ fn a_desk_shows_its_sessions() {
     let mut words = [0; WORDS];
     words[..3].copy_from_slice(&[9, 3, 5]);
     words[17..19].copy_from_slice(&[2, 7]);
-    words[33 + 15] = 3;
+    words[34] = 1;
+    words[49 + 15] = 3;
     let store = Store::from_kept_words(vec![], vec![], vec![], words);
-    let sessions: Vec<_> =
-        store.desk().sessions().map(|open| (open.number, open.statement, open.list)).collect();
-    let session = Session::from_number;
-    assert_eq!(sessions, [(session(3), 2, &[][..]), (session(5), 7, &[3][..])]);
+    let sessions: Vec<_> = store.desk().sessions().collect();
+    let number = Session::from_number;
+    let first = OpenSession { number: number(3), statement: 2, spoiled: false, list: &[] };
+    let second = OpenSession { number: number(5), statement: 7, spoiled: true, list: &[3] };
+    assert_eq!(sessions, [first, second]);
 }
 
 /// A store of its own areas, in which a session that is open has inserted a row.

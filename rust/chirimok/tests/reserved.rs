@@ -102,8 +102,8 @@ fn store(versions: &[Version], end: u64) -> Store {
     store.desk[0] = 41;
     store.desk[1..3].copy_from_slice(&[20, 21]);
     store.desk[17] = 1;
-    store.desk[33] = 15;
-    store.desk[48..50].copy_from_slice(&[15, 20]);
+    store.desk[49] = 15;
+    store.desk[64..66].copy_from_slice(&[15, 20]);
     put_chain(&mut store, versions, end);
     store
 }
@@ -136,14 +136,14 @@ const fn finds(count: usize, writes: u32) -> Answers {
 }
 
 /// Makes the call with both engines, each of which must answer this. A refused call leaves areas
-/// and desk as they were, and an accepted one leaves the same with both.
+/// and desk as they were, but for the mark that 10 sets, and both leave the same.
 fn answers(what: &str, store: &Store, call: &Call, answer: Answer) {
     let [one, two] = BOTH.map(|engine| {
         let mut copy = store.clone();
         let name = engine.name();
         assert_eq!(engine.call(&mut copy, call), answer, "{name}, {what}: {call:?}");
         if answer.code != 0 {
-            let difference = store.difference(&copy);
+            let difference = store.difference_refused(&copy, call, answer.code);
             assert_eq!(difference, None, "{name}, {what}: a refused {call:?} changes it");
         }
         copy

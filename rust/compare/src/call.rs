@@ -68,4 +68,10 @@ impl Answer {
     pub const fn refused(code: u32) -> Self {
         Self { code, values: [0; 3] }
     }
+
+    /// Whether areas or desk may be others now: after an accepted call, and after 10, which marks its
+    /// session (02, T-07).
+    pub const fn changes(self) -> bool {
+        matches!(self.code, 0 | 10)
+    }
 }

@@ -24,7 +24,7 @@ impl Engine for Plain {
     fn call(&self, store: &mut Store, call: &Call) -> Answer {
         let mut desk = Desk::from_words(&store.desk);
         let answer = plain_call(store, &mut desk, call);
-        // The desk is taken back after a refusal too: the call must not have changed it.
+        // The desk is taken back after a refusal too: 10 marks a session, and no other may change it.
         store.desk = desk.words();
         match answer {
             Ok(values) => Answer::done(values),

@@ -24,7 +24,7 @@ impl<'e> Pair<'e> {
     }
 
     /// Makes the call with both engines. Answers, values, desk and every byte of the areas must be
-    /// the same, and "every refusal leaves areas and desk unchanged".
+    /// the same, and a refusal leaves areas and desk unchanged, but for the mark that 10 sets.
     pub fn must_agree(&mut self, call: &Call) -> Answer {
         let [one, two] = self.engines;
         let [store_one, store_two] = &mut self.stores;
@@ -51,7 +51,7 @@ impl<'e> Pair<'e> {
 /// in its out array, refused or not.
 fn check_refusal(before: &Store, after: &Store, call: &Call, answer: Answer) {
     assert_eq!(answer.values, [0; 3], "a refused {call:?} reports numbers");
-    if let Some(difference) = before.difference(after) {
+    if let Some(difference) = before.difference_refused(after, call, answer.code) {
         panic!("{call:?} is refused with {} and changes {difference}", answer.code);
     }
 }

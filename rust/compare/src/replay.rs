@@ -24,6 +24,8 @@ struct Open {
     began: Table,
     seen: BTreeSet<u64>,
     statement: u32,
+    /// Whether it was answered 10 (02, T-07).
+    spoiled: bool,
     writes: Vec<Write>,
 }
 
@@ -73,7 +75,8 @@ impl Model {
 
     fn begin(&mut self, number: u64) {
         let (began, seen) = (self.table.clone(), self.committed.clone());
-        self.open.insert(number, Open { began, seen, statement: 0, writes: Vec::new() });
+        let open = Open { began, seen, statement: 0, spoiled: false, writes: Vec::new() };
+        self.open.insert(number, open);
     }
 
     fn write(&mut self, session: u64, row: u64, body: Option<Vec<u8>>) {
@@ -110,8 +113,38 @@ impl Model {
         }
     }
 
-    /// Checks an answer against the table, and follows an accepted call.
+    /// Whether the call must get 18: "insert, update, delete, next and commit" of a session that was
+    /// answered 10, whatever the call's other arguments are (02, T-07).
+    fn refuses_spoiled(&self, call: &Call) -> bool {
+        match call {
+            Call::Next { session }
+            | Call::Insert { session, .. }
+            | Call::Update { session, .. }
+            | Call::Delete { session, .. }
+            | Call::Commit { session } => self.open.get(session).is_some_and(|open| open.spoiled),
+            _ => false,
+        }
+    }
+
+    /// Checks an answer against the table, and follows a call that changed something.
     fn follow(&mut self, store: &Store, call: &Call, answer: Answer) {
+        assert_eq!(answer.code == 18, self.refuses_spoiled(call), "{call:?}: {answer:?}");
+        if answer.code != 18 {
+            self.check_answer(store, call, answer);
+        }
+        match (call, answer.code) {
+            (_, 0) => self.follow_accepted(call, answer),
+            (Call::Update { session, .. } | Call::Delete { session, .. }, 10) => {
+                self.open.get_mut(session).expect("open").spoiled = true;
+            }
+            _ => {}
+        }
+        let held = items(&store.data) + items(&store.undo);
+        assert_eq!(held, self.held, "versions held after {call:?}");
+    }
+
+    /// Checks a reading or a conflict against the table.
+    fn check_answer(&self, store: &Store, call: &Call, answer: Answer) {
         let known = |session: &u64| self.open.contains_key(session);
         let in_store = |row: &u64| *row < store.rows();
         match call {
@@ -126,11 +159,6 @@ impl Model {
             }
             _ => {}
         }
-        if answer.code == 0 {
-            self.follow_accepted(call, answer);
-        }
-        let held = items(&store.data) + items(&store.undo);
-        assert_eq!(held, self.held, "versions held after {call:?}");
     }
 
     fn follow_accepted(&mut self, call: &Call, answer: Answer) {
@@ -169,12 +197,20 @@ impl Model {
 }
 
 /// Runs random histories with one engine and fails where a reading, a conflict, a count or the
-/// number of versions held is not what the table says.
+/// number of versions held is not what the table says, or a session that lost a conflict does more
+/// than read and withdraw.
 pub fn agree_with_table(engine: &dyn Engine, rounds: u64) {
     let mut tally = Tally::default();
     for_each_seed(rounds, |seed| run(engine, seed, &mut tally));
-    let writes: &[u32] = &[0, 7, 8, 9, 10];
-    let expected = [("read", &[0, 7][..]), ("update", writes), ("delete", writes)];
+    let (changes, writes): (&[u32], &[u32]) = (&[0, 18], &[0, 7, 8, 9, 10, 18]);
+    let expected = [
+        ("next", changes),
+        ("insert", changes),
+        ("update", writes),
+        ("delete", writes),
+        ("read", &[0, 7]),
+        ("commit", changes),
+    ];
     tally.assert_seen("replay", &expected);
     tally.assert_never("replay", &[6, 17]);
 }

@@ -1,13 +1,15 @@
 //! The lent areas and the desk, as one value that can be copied and compared.
 
+use crate::Call;
 use crate::layout::PAGE;
 
-/// Words in a desk: next, 16 numbers, 16 statements, 16 lists of 15.
-pub const WORDS: usize = 273;
+/// Words in a desk: next, 16 numbers, 16 statements, 16 marks, 16 lists of 15.
+pub const WORDS: usize = 289;
 
 const NUMBERS: usize = 1;
 const STATEMENTS: usize = 17;
-const LISTS: usize = 33;
+const MARKS: usize = 33;
+const LISTS: usize = 49;
 
 /// Areas and desk. The desk is kept in words, so that it can hold anything a caller could pass.
 #[derive(Clone, PartialEq, Eq)]
@@ -49,6 +51,10 @@ impl Store {
         &mut self.desk[STATEMENTS + place]
     }
 
+    pub fn mark_mut(&mut self, place: usize) -> &mut u32 {
+        &mut self.desk[MARKS + place]
+    }
+
     pub fn member_mut(&mut self, place: usize, member: usize) -> &mut u32 {
         &mut self.desk[LISTS + place * 15 + member]
     }
@@ -57,6 +63,26 @@ impl Store {
     pub fn sessions(&self) -> impl Iterator<Item = u64> + Clone + '_ {
         let numbers = self.desk[NUMBERS..STATEMENTS].iter();
         numbers.map(|&number| number.into()).take_while(|&number| number != 0)
+    }
+
+    /// Whether the session is open and marked spoiled (02, T-07).
+    pub fn is_spoiled(&self, session: u64) -> bool {
+        let mut marked = self.sessions().zip(&self.desk[MARKS..LISTS]);
+        marked.any(|(open, &mark)| open == session && mark == 1)
+    }
+
+    /// What a call refused with this number has changed that it must not: "every refusal leaves
+    /// areas and desk unchanged", but that 10 of update and delete marks the session, "the one change
+    /// that refusal makes" (02, T-07).
+    pub fn difference_refused(&self, after: &Self, call: &Call, code: u32) -> Option<String> {
+        let (Call::Update { session, .. } | Call::Delete { session, .. }, 10) = (call, code) else {
+            return self.difference(after);
+        };
+        let mut marked = self.clone();
+        if let Some(place) = self.sessions().position(|open| open == *session) {
+            *marked.mark_mut(place) = 1;
+        }
+        marked.difference(after)
     }
 
     /// Where another store differs, in words for a failing test; none where it is equal.

@@ -4,7 +4,7 @@ use crate::random::named_seed;
 use crate::{Answer, Call};
 
 /// The highest number that a call answers.
-const HIGHEST: usize = 17;
+const HIGHEST: usize = 18;
 
 /// A count for each call and number.
 #[derive(Default)]

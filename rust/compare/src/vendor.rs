@@ -76,7 +76,12 @@ fn run(engine: &dyn Engine, random: &mut Random) {
         }
     }
     for session in store.sessions().collect::<Vec<_>>() {
-        must(engine, &mut store, &Call::Commit { session }, 0);
+        // A spoiled session cannot commit (02, T-07).
+        let close = match store.is_spoiled(session) {
+            true => Call::Withdraw { session },
+            false => Call::Commit { session },
+        };
+        must(engine, &mut store, &close, 0);
     }
     must(engine, &mut store, &Call::Seal, 0);
     check_pages(&store);

@@ -13,9 +13,9 @@ pub const SESSIONS: usize = 16;
 pub const MEMBERS: usize = 15;
 
 /// Words in a desk.
-pub const WORDS: usize = 1 + SESSIONS + SESSIONS + SESSIONS * MEMBERS;
+pub const WORDS: usize = 1 + SESSIONS + SESSIONS + SESSIONS + SESSIONS * MEMBERS;
 
-/// The session record that goes into each call: 273 words. Used places come first; unused ones are
+/// The session record that goes into each call: 289 words. Used places come first; unused ones are
 /// zero.
 #[derive(Clone, Debug, PartialEq, Eq)]
 #[repr(C)]
@@ -26,6 +26,8 @@ pub struct Desk {
     pub numbers: [u32; SESSIONS],
     /// The statement in which each session is.
     pub statements: [u32; SESSIONS],
+    /// 1 where the session is spoiled, else 0 (02, T-07).
+    pub marks: [u32; SESSIONS],
     /// The numbers that were open when each session began, ascending.
     pub lists: [[u32; MEMBERS]; SESSIONS],
 }
@@ -59,6 +61,13 @@ fn places_sound(places: &[u32], limit: u32) -> bool {
     true
 }
 
+/// Whether the places of the open sessions hold at most `most`, and the others zero.
+#[inline]
+fn column_sound(column: &[u32; SESSIONS], open: usize, most: u32) -> bool {
+    let (used, unused) = column.split_at(open);
+    used.iter().all(|&place| place <= most) && unused.iter().all(|&place| place == 0)
+}
+
 /// One test at the end instead of one for each place, sixteen places a step: most places of a desk
 /// are unused, and every call looks at all of them.
 #[inline]
@@ -89,6 +98,9 @@ impl Desk {
     /// The statement that no session moves on from.
     pub const LAST_STATEMENT: u32 = 65_535;
 
+    /// The mark of a session that is spoiled. Unmarked sessions have 0.
+    pub const SPOILED: u32 = 1;
+
     /// `next` once all numbers are handed out.
     pub const NUMBERS_END: u32 = HIGHEST_NUMBER + 1;
 
@@ -98,11 +110,12 @@ impl Desk {
             next,
             numbers: [0; SESSIONS],
             statements: [0; SESSIONS],
+            marks: [0; SESSIONS],
             lists: [[0; MEMBERS]; SESSIONS],
         }
     }
 
-    /// The desk that the words say: next, numbers, statements, lists.
+    /// The desk that the words say: next, numbers, statements, marks, lists.
     pub fn from_words(words: &[u32; WORDS]) -> Self {
         let mut words = words.iter().copied();
         let mut word = || words.next().expect("as many words as a desk has places");
@@ -110,13 +123,15 @@ impl Desk {
             next: word(),
             numbers: from_fn(|_| word()),
             statements: from_fn(|_| word()),
+            marks: from_fn(|_| word()),
             lists: from_fn(|_| from_fn(|_| word())),
         }
     }
 
-    /// The desk's words: next, numbers, statements, lists.
+    /// The desk's words: next, numbers, statements, marks, lists.
     pub fn words(&self) -> [u32; WORDS] {
-        let columns = [&self.numbers[..], &self.statements, self.lists.as_flattened()];
+        let lists = self.lists.as_flattened();
+        let columns = [&self.numbers[..], &self.statements, &self.marks, lists];
         let mut words = iter::once(&self.next).chain(columns.into_iter().flatten());
         from_fn(|_| *words.next().expect("as many words as a desk has places"))
     }
@@ -133,16 +148,10 @@ impl Desk {
         let open = self.open();
         let sound = (Self::FIRST_NUMBER..=Self::NUMBERS_END).contains(&self.next)
             && places_sound(&self.numbers, self.next)
-            && self.statements_sound(open)
+            && column_sound(&self.statements, open, Self::LAST_STATEMENT)
+            && column_sound(&self.marks, open, Self::SPOILED)
             && self.lists_sound(open);
         if sound { Ok(()) } else { Err(Refusal::UnsoundDesk) }
-    }
-
-    #[inline]
-    fn statements_sound(&self, open: usize) -> bool {
-        let (used, unused) = self.statements.split_at(open);
-        used.iter().all(|&statement| statement <= Self::LAST_STATEMENT)
-            && unused.iter().all(|&statement| statement == 0)
     }
 
     #[inline]
@@ -162,6 +171,20 @@ impl Desk {
         Ok(Session { place, number, statement: self.statements[place], list: &self.lists[place] })
     }
 
+    /// The same for a call that changes something: 18 where the session is spoiled, "directly after
+    /// 4" (02, T-07).
+    #[inline]
+    pub fn unspoiled_session(&self, number: u64) -> Result<Session<'_>, Refusal> {
+        let session = self.session(number)?;
+        let spoiled = self.marks[session.place] == Self::SPOILED;
+        if spoiled { Err(Refusal::SessionSpoiled) } else { Ok(session) }
+    }
+
+    /// "After an answer 10, the desk marks that session spoiled."
+    pub fn spoil(&mut self, place: usize) {
+        self.marks[place] = Self::SPOILED;
+    }
+
     /// The smallest among all open sessions' numbers and list members; with none open, the next
     /// number. All ascend, so the first of each is the smallest.
     pub fn mark(&self) -> u64 {
@@ -171,7 +194,8 @@ impl Desk {
         mark.into()
     }
 
-    /// Opens a session in the first unused place, which must be there, and answers its number.
+    /// Opens a session in the first unused place, which must be there, and answers its number. An
+    /// unused place is not marked, and so the session is not.
     pub fn begin(&mut self) -> u64 {
         let open = self.open();
         let number = self.next;
@@ -187,9 +211,11 @@ impl Desk {
         let last = self.open() - 1;
         self.numbers.copy_within(place + 1..=last, place);
         self.statements.copy_within(place + 1..=last, place);
+        self.marks.copy_within(place + 1..=last, place);
         self.lists.copy_within(place + 1..=last, place);
         self.numbers[last] = 0;
         self.statements[last] = 0;
+        self.marks[last] = 0;
         self.lists[last] = [0; MEMBERS];
     }
 }

@@ -3,9 +3,9 @@
 //!
 //! The store works on three areas lent by the caller (data, undo and status, in pages of 8,192
 //! bytes) and on a [`Desk`] that holds the open sessions. Nothing is allocated and nothing is kept
-//! between calls. Every call answers exactly as document 01 says, with T-03 and T-05 of document
-//! 02, for arbitrary bytes in the areas and arbitrary desks, and a refused call leaves both as they
-//! were.
+//! between calls. Every call answers exactly as document 01 says, with T-03, T-05 and T-07 of
+//! document 02, for arbitrary bytes in the areas and arbitrary desks. A refused call leaves both as
+//! they were, but that 10 marks its session at the desk.
 //!
 //! Arguments stand in the same order everywhere: data, undo, status, desk, session, row, body.
 

@@ -1,7 +1,7 @@
 //! The refusal numbers.
 
 /// Why a call did nothing, with the numbers of 01, "When the desk says no", and of document 02. A
-/// call gives the lowest that applies, but that 17 stands between 6 and 7.
+/// call gives the lowest that applies, but that 17 stands between 6 and 7, and 18 directly after 4.
 #[derive(Clone, Copy, Debug, PartialEq, Eq)]
 #[repr(u32)]
 pub enum Refusal {
@@ -23,7 +23,8 @@ pub enum Refusal {
     OwnWrite = 8,
     /// Another writer of the row is not committed.
     WriterInWork = 9,
-    /// A writer of the row whom the session does not see is committed.
+    /// A writer of the row whom the session does not see is committed. The one refusal that changes
+    /// something: the session's mark at the desk (02, T-07).
     WriterCommitted = 10,
     /// No empty slot, or no free undo entry.
     NoRoom = 11,
@@ -37,6 +38,8 @@ pub enum Refusal {
     SessionOpen = 15,
     /// A version that was looked at names a number with the reserved status (02, T-05).
     ReservedStatus = 17,
+    /// The session was answered 10 before: it may read and withdraw (02, T-07).
+    SessionSpoiled = 18,
 }
 
 impl Refusal {

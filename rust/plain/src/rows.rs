@@ -29,7 +29,7 @@ fn check_body(body: &[u8]) -> Result<&[u8; BODY], Refusal> {
     body.try_into().map_err(|_| Refusal::RowOrBody)
 }
 
-/// Writes a version into the lowest empty slot and answers its row. Refusals: 1, 2, 4, 5, 11.
+/// Writes a version into the lowest empty slot and answers its row. Refusals: 1, 2, 4, 18, 5, 11.
 pub fn insert(
     data: &mut [u8],
     undo: &[u8],
@@ -40,7 +40,7 @@ pub fn insert(
 ) -> Result<u64, Refusal> {
     check_lengths(data, undo, status)?;
     desk.check_sound()?;
-    let session = desk.session(session)?;
+    let session = desk.unspoiled_session(session)?;
     let body = check_body(body)?;
     let row = Kind::DATA.lowest_free(data).ok_or(Refusal::NoRoom)?;
 
@@ -49,23 +49,25 @@ pub fn insert(
     Ok(row as u64)
 }
 
-/// Replaces a row's version and keeps the old one in an undo entry. Refusals: 1, 2, 4 to 6, 17, 7
-/// to 11.
+/// Replaces a row's version and keeps the old one in an undo entry. Refusals: 1, 2, 4, 18, 5, 6,
+/// 17, 7 to 11.
 pub fn update(
     data: &mut [u8],
     undo: &mut [u8],
     status: &[u8],
-    desk: &Desk,
+    desk: &mut Desk,
     session: u64,
     row: u64,
     body: &[u8],
 ) -> Result<(), Refusal> {
     check_lengths(data, undo, status)?;
     desk.check_sound()?;
-    let session = desk.session(session)?;
+    let session = desk.unspoiled_session(session)?;
     let row = check_row(data, row)?;
     let body = check_body(body)?;
-    check_writable(data, undo, status, &session, row)?;
+    if let Err(refusal) = check_writable(data, undo, status, &session, row) {
+        return Err(unwritten(desk, session.place, refusal));
+    }
     let entry = Kind::UNDO.lowest_free(undo).ok_or(Refusal::NoRoom)?;
 
     let (slot, entry) = (slot_at(row), Kind::UNDO.record_at(entry));
@@ -77,20 +79,22 @@ pub fn update(
     Ok(())
 }
 
-/// Marks a row's version as expired by the session. Refusals: 1, 2, 4 to 6, 17, 7 to 10.
+/// Sets the session as the expirer of a row's version. Refusals: 1, 2, 4, 18, 5, 6, 17, 7 to 10.
 pub fn delete(
     data: &mut [u8],
     undo: &[u8],
     status: &[u8],
-    desk: &Desk,
+    desk: &mut Desk,
     session: u64,
     row: u64,
 ) -> Result<(), Refusal> {
     check_lengths(data, undo, status)?;
     desk.check_sound()?;
-    let session = desk.session(session)?;
+    let session = desk.unspoiled_session(session)?;
     let row = check_row(data, row)?;
-    check_writable(data, undo, status, &session, row)?;
+    if let Err(refusal) = check_writable(data, undo, status, &session, row) {
+        return Err(unwritten(desk, session.place, refusal));
+    }
 
     expire(data, slot_at(row), &session);
     finish_page(&Kind::DATA, data, slot_at(row), Some(session.number));
@@ -126,6 +130,15 @@ fn check_writable(
 ) -> Result<(), Refusal> {
     session.find(status, Chain::of(data, undo, row))?;
     session.check_conflict(status, &Meta::read(data, slot_at(row)))
+}
+
+/// A write that is refused: 10 alone marks the session, "the one change that refusal makes" (02,
+/// T-07).
+fn unwritten(desk: &mut Desk, place: usize, refusal: Refusal) -> Refusal {
+    if refusal == Refusal::WriterCommitted {
+        desk.spoil(place);
+    }
+    refusal
 }
 
 /// Writes a slot whole: a new version by the session, with `undo_ptr` to the one that it replaces.

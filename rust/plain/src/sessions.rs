@@ -22,7 +22,7 @@ pub fn begin(data: &[u8], undo: &[u8], status: &mut [u8], desk: &mut Desk) -> Re
     Ok(number)
 }
 
-/// Moves a session on to its next statement. Refusals: 1, 2, 4, 14.
+/// Moves a session on to its next statement. Refusals: 1, 2, 4, 18, 14.
 pub fn next(
     data: &[u8],
     undo: &[u8],
@@ -32,7 +32,7 @@ pub fn next(
 ) -> Result<(), Refusal> {
     check_lengths(data, undo, status)?;
     desk.check_sound()?;
-    let place = desk.session(session)?.place;
+    let place = desk.unspoiled_session(session)?.place;
     if desk.statements[place] == Desk::LAST_STATEMENT {
         return Err(Refusal::StatementsUsedUp);
     }
@@ -40,7 +40,7 @@ pub fn next(
     Ok(())
 }
 
-/// Makes a session's writes seen by those that begin later, and closes it. Refusals: 1, 2, 4.
+/// Makes a session's writes seen by those that begin later, and closes it. Refusals: 1, 2, 4, 18.
 pub fn commit(
     data: &[u8],
     undo: &[u8],
@@ -50,7 +50,7 @@ pub fn commit(
 ) -> Result<(), Refusal> {
     check_lengths(data, undo, status)?;
     desk.check_sound()?;
-    let place = desk.session(session)?.place;
+    let place = desk.unspoiled_session(session)?.place;
     status::set(status, session, State::Committed);
     desk.close(place);
     Ok(())

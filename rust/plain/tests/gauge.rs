@@ -44,7 +44,12 @@ impl Store {
     }
 
     fn delete(&mut self, session: u64, row: u64) -> Result<(), Refusal> {
-        plain::delete(&mut self.data, &self.undo, &self.status, &self.desk, session, row)
+        plain::delete(&mut self.data, &self.undo, &self.status, &mut self.desk, session, row)
+    }
+
+    fn withdraw(&mut self, session: u64) -> Result<(), Refusal> {
+        let Self { data, undo, status, desk } = self;
+        plain::withdraw(data, undo, status, desk, session)
     }
 
     /// The count of versions and the body.
@@ -66,6 +71,7 @@ impl Store {
     }
 }
 
+/// With 02, T-07: session 3 lost a conflict and is withdrawn, where document 01 has it commit.
 #[test]
 fn the_whole_run() {
     let mut store = Store::formatted();
@@ -81,7 +87,8 @@ fn the_whole_run() {
     assert_eq!(store.read(3, 0), Ok((2, &Z[..])));
     assert_eq!(store.delete(3, 0), Err(Refusal::WriterCommitted));
     assert_eq!(store.sweep(0, 127), Ok((127, 0)));
-    assert_eq!(store.commit(3), Ok(()));
+    assert_eq!(store.commit(3), Err(Refusal::SessionSpoiled));
+    assert_eq!(store.withdraw(3), Ok(()));
     assert_eq!(store.sweep(0, 127), Ok((127, 1)));
     assert_eq!(store.begin(), Ok(4));
     assert_eq!(store.read(4, 0), Ok((1, &F[..])));

@@ -1,6 +1,6 @@
--- `playing::delete` meets its contract: the call on the desk's words, and its line. Assumes nothing.
+-- `playing::delete` meets its contract: the call on the desk's words, the desk that they say then, and its line. Assumes nothing.
 use Prim.Native.Nat.{ℕ}
-use mathlib.Core.Path.{refl, sym, ap, _∙_}
+use mathlib.Core.Path.{refl, ap, _∙_}
 use mathlib.Core.List.{List}
 use Rattle.desk.specs.declared.Desk.{Desk}
 use Rattle.kind.specs.Areas.{areas}
@@ -16,6 +16,9 @@ words-of-requires c κs = search needs
 delete-requires : tie.Need-delete-requires
 delete-requires c κs = search needs
 
+desk-left-requires : tie.Need-desk-left-requires
+desk-left-requires c κs = search needs
+
 code-requires : tie.Need-code-requires
 code-requires c κs = search needs
 
@@ -30,11 +33,10 @@ same-length-2 c = search needs
 
 returns : tie.Need-returns
 returns c =
-    let start = c .before .before .before .before .before .before .before .before .before .before .before .before .before .before .before .args in
+    let start = c .before .before .before .before .before .before .before .before .before .before .before .before .before .before .before .before .before .args in
     let came = areas (start .«data» .now) (start .undo .now) (start .status .now) in
-    let same = c .before .before .before .before .before .before .before .before .before .before .words-of .ensures .1 in
-    let done = c .before .before .before .before .before .before .before .delete .ensures in
-    on-desk (λ (d : Desk). deleteLeaves came d (start .session) (start .row)) same (plays _ _ _ _ _ _ _ (c .before .before .before .before .code .ensures ∙ done .answers) refl (sym same) (ap (λ (d : List ℕ). areas d (start .undo .now) (start .status .now)) (done .leaves)) (c .before .before .plain .ensures))
+    let done = c .before .before .before .before .before .before .before .before .before .delete .ensures .0 in
+    on-desk (λ (d : Desk). deleteLeaves came d (start .session) (start .row)) (c .before .before .before .before .before .before .before .before .before .before .before .before .words-of .ensures .1) (plays _ _ _ _ _ _ _ (c .before .before .before .before .code .ensures ∙ ap (λ (y : ℕ × Desk). y .0) (done .answers)) refl (c .before .before .before .before .before .desk-left .ensures ∙ ap (λ (y : ℕ × Desk). y .1) (done .answers)) (ap (λ (d : List ℕ). areas d (start .undo .now) (start .status .now)) (done .leaves)) (c .before .before .plain .ensures))
 
 pub delete-spec : {M : Type 1} → statement M
 delete-spec =
@@ -42,6 +44,7 @@ delete-spec =
     (tie.spec
     words-of-requires
     delete-requires
+    desk-left-requires
     code-requires
     plain-requires
     same-length

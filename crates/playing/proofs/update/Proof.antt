@@ -1,5 +1,6 @@
--- `playing::update` meets its contract: the call on the desk's words, and its line. Assumes nothing.
-use mathlib.Core.Path.{refl, sym, _∙_}
+-- `playing::update` meets its contract: the call on the desk's words, the desk that they say then, and its line. Assumes nothing.
+use Prim.Native.Nat.{ℕ}
+use mathlib.Core.Path.{refl, ap, _∙_}
 use Rattle.desk.specs.declared.Desk.{Desk}
 use Rattle.kind.specs.Areas.{areas}
 use Rattle.calls.specs.Calls.{updateLeaves}
@@ -13,6 +14,9 @@ words-of-requires c κs = search needs
 
 update-requires : tie.Need-update-requires
 update-requires c κs = search needs
+
+desk-left-requires : tie.Need-desk-left-requires
+desk-left-requires c κs = search needs
 
 code-requires : tie.Need-code-requires
 code-requires c κs = search needs
@@ -31,11 +35,10 @@ same-length-3 c = search needs
 
 returns : tie.Need-returns
 returns c =
-    let start = c .before .before .before .before .before .before .before .before .before .before .before .before .before .before .before .before .before .before .before .args in
+    let start = c .before .before .before .before .before .before .before .before .before .before .before .before .before .before .before .before .before .before .before .before .before .args in
     let came = areas (start .«data» .now) (start .undo .now) (start .status .now) in
-    let same = c .before .before .before .before .before .before .before .before .before .before .before .before .before .words-of .ensures .1 in
-    let done = c .before .before .before .before .before .before .before .before .before .update .ensures in
-    on-desk (λ (d : Desk). updateLeaves came d (start .session) (start .row) (start .body .now)) same (plays _ _ _ _ _ _ _ (c .before .before .before .before .code .ensures ∙ done .answers) refl (sym same) (done .leaves) (c .before .before .plain .ensures))
+    let done = c .before .before .before .before .before .before .before .before .before .before .before .update .ensures .0 in
+    on-desk (λ (d : Desk). updateLeaves came d (start .session) (start .row) (start .body .now)) (c .before .before .before .before .before .before .before .before .before .before .before .before .before .before .before .words-of .ensures .1) (plays _ _ _ _ _ _ _ (c .before .before .before .before .code .ensures ∙ ap (λ (y : ℕ × Desk). y .0) (done .answers)) refl (c .before .before .before .before .before .desk-left .ensures ∙ ap (λ (y : ℕ × Desk). y .1) (done .answers)) (done .leaves) (c .before .before .plain .ensures))
 
 pub update-spec : {M : Type 1} → statement M
 update-spec =
@@ -43,6 +46,7 @@ update-spec =
     (tie.spec
     words-of-requires
     update-requires
+    desk-left-requires
     code-requires
     plain-requires
     same-length

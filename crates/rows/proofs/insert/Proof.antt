@@ -3,20 +3,20 @@ use mathlib.Core.Path.{refl, sym, _∙_}
 use native.Mathlib.Omega.{arith}
 use Rattle.ground.proofs.Once.{does-case}
 use Rattle.words.specs.Words.{deskIn}
-use Rattle.admit.proofs.Admissions.{Admits, admits, admits-place, admits-lent}
+use Rattle.admit.proofs.Admissions.{Unspoiled, admits-unspoiled, admits-place, admits-lent}
 use Rattle.rows.proofs.Calls.{insert-inside, insert-refused, insert-5, insert-11, insert-0}
 use borrow.Author.Needs.{needs}
 use Rattle.rows.proofs.insert.Statement.{statement}
 use Rattle.rows.proofs.insert.Tie as tie
 
--- the session was admitted, at the place that admission gave
+-- the session was admitted, at the place that admission gave, and is not spoiled
 admitted : (c : tie.After-known-told2)
     → let start = c .before .before .before .before .before .before .before .before .before .args in
-    Admits (start .«data» .now) (start .undo .now) (start .status .now) (deskIn (start .desk .now)) (start .session) (c .before .k .given .0 .0)
-admitted c = admits _ _ _ _ _ _ (sym (c .before .before .before .admit .ensures) ∙ c .before .k .given .1)
+    Unspoiled (start .«data» .now) (start .undo .now) (start .status .now) (deskIn (start .desk .now)) (start .session) (c .before .k .given .0 .0)
+admitted c = admits-unspoiled _ _ _ _ _ _ (sym (c .before .before .before .admit-unspoiled .ensures) ∙ c .before .k .given .1)
 
-admit-requires : tie.Need-admit-requires
-admit-requires c κs = search needs
+admit-unspoiled-requires : tie.Need-admit-unspoiled-requires
+admit-unspoiled-requires c κs = search needs
 
 enum-known-answer : tie.Need-enum-known-answer
 enum-known-answer c = search needs
@@ -25,7 +25,7 @@ unmade-requires : tie.Need-unmade-requires
 unmade-requires c κs = search needs
 
 returns : tie.Need-returns
-returns c = does-case (insert-refused _ _ _ _ _ _ _ (sym (c .before .before .before .before .admit .ensures) ∙ c .before .before .answer .given .1)) (c .unmade .ensures) refl
+returns c = does-case (insert-refused _ _ _ _ _ _ _ (sym (c .before .before .before .before .admit-unspoiled .ensures) ∙ c .before .before .answer .given .1)) (c .unmade .ensures) refl
 
 enum-known-k : tie.Need-enum-known-k
 enum-known-k c = search needs
@@ -37,7 +37,7 @@ returns-2 : tie.Need-returns-2
 returns-2 c = does-case (insert-5 _ _ _ _ _ _ _ (admitted (c .before .before)) (c .before .if1 .taken)) (c .unmade2 .ensures) refl
 
 lowest-empty-requires : tie.Need-lowest-empty-requires
-lowest-empty-requires c κs = let few = admits-lent _ _ _ _ _ _ (admitted (c .before .before)) .inData .few in omega (arith, few)
+lowest-empty-requires c κs = let few = admits-lent _ _ _ _ _ _ (admitted (c .before .before) .admitted) .inData .few in omega (arith, few)
 
 rows-requires : tie.Need-rows-requires
 rows-requires c κs = search needs
@@ -52,7 +52,7 @@ returns-3 : tie.Need-returns-3
 returns-3 c = does-case (insert-11 _ _ _ _ _ _ _ (admitted (c .before .before .before .before .before .before .before)) (c .before .before .before .before .before .before .if1 .left) (c .before .before .before .before .lowest-empty .ensures) (c .before .before .rows .ensures) (c .before .if2 .taken)) (c .unmade3 .ensures) refl
 
 statement-requires : tie.Need-statement-requires
-statement-requires c κs = (search needs, admits-place _ _ _ _ _ _ (admitted (c .before .before .before .before .before .before .before .before)))
+statement-requires c κs = (search needs, admits-place _ _ _ _ _ _ (admitted (c .before .before .before .before .before .before .before .before) .admitted))
 
 insert-at-requires : tie.Need-insert-at-requires
 insert-at-requires c κs = (insert-inside _ (c .before .before .before .before .before .before .lowest-empty .ensures) (c .before .before .before .before .rows .ensures) (c .before .before .before .if2 .left), c .before .before .before .before .before .before .before .before .if1 .left)
@@ -71,7 +71,7 @@ pub insert-spec : {M : Type 1} → statement M
 insert-spec =
     tie.close
     (tie.spec
-    admit-requires
+    admit-unspoiled-requires
     enum-known-answer
     unmade-requires
     returns

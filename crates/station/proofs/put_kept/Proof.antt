@@ -14,7 +14,7 @@ same-length c = search needs
 
 returns : tie.Need-returns
 returns c =
-    let done : c .before .before .before .before .before .before .before .before .before .before .args .code ≡ 0 = omega arith in
+    let done : c .before .before .before .before .before .before .before .before .before .before .before .args .code ≡ 0 = omega arith in
     c .before .before .put-desk .ensures .0 ∙ kept-new _ _ _ done
 
 returns-2 : tie.Need-returns-2

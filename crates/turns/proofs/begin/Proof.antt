@@ -121,7 +121,7 @@ put-desk-requires : tie.Need-put-desk-requires
 put-desk-requires c κs = search needs
 
 cast-t28 : tie.Need-cast-t28
-cast-t28 c = omega (arith, number (c .before .before .before .before .before .before .before .before .before .before .before .before .before .before .before .before .before .before))
+cast-t28 c = omega (arith, number (c .before .before .before .before .before .before .before .before .before .before .before .before .before .before .before .before .before .before .before))
 
 same-length : tie.Need-same-length
 same-length c = search needs
@@ -129,7 +129,7 @@ same-length c = search needs
 returns-5 : tie.Need-returns-5
 returns-5 c = (
   does-case
-      (begin-0 _ _ _ _ (good (c .before .before .before .before .before .before .before .before .before .before .before .before .before .before .before .before .before .before .before .before .before .before .before .before .before .before .before)) (fine (c .before .before .before .before .before .before .before .before .before .before .before .before .before .before .before .before .before .before .before .before .before .before .before)) (room (c .before .before .before .before .before .before .before .before .before .before .before .before .before .before .before .before .before .before .before)) (c .before .before .before .before .before .before .before .before .before .before .before .before .before .before .before .before .before .before .before .before .before .before .before .before .before .before .before .before .before .next .ensures) (c .before .before .before .before .before .before .before .before .before .before .before .before .before .before .before .before .before .before .if4 .left) (c .put-desk .ensures .1 ∙ c .before .before .before .before .before .before .begin .ensures ∙ ap begun (c .before .before .before .before .before .before .before .desk-in .ensures)) (c .before .before .before .before .before .before .before .before .before .before .before .before .before .before .before .before .put-status .ensures) (c .before .before .before .before .before .before .before .before .before .before .before .before .put-txn-id .ensures))
+      (begin-0 _ _ _ _ (good (c .before .before .before .before .before .before .before .before .before .before .before .before .before .before .before .before .before .before .before .before .before .before .before .before .before .before .before .before)) (fine (c .before .before .before .before .before .before .before .before .before .before .before .before .before .before .before .before .before .before .before .before .before .before .before .before)) (room (c .before .before .before .before .before .before .before .before .before .before .before .before .before .before .before .before .before .before .before .before)) (c .before .before .before .before .before .before .before .before .before .before .before .before .before .before .before .before .before .before .before .before .before .before .before .before .before .before .before .before .before .before .next .ensures) (c .before .before .before .before .before .before .before .before .before .before .before .before .before .before .before .before .before .before .before .if4 .left) (c .put-desk .ensures .1 ∙ c .before .before .before .before .before .before .before .begin .ensures ∙ ap begun (c .before .before .before .before .before .before .before .before .desk-in .ensures)) (c .before .before .before .before .before .before .before .before .before .before .before .before .before .before .before .before .before .put-status .ensures) (c .before .before .before .before .before .before .before .before .before .before .before .before .before .put-txn-id .ensures))
       refl
       refl,
   search needs,

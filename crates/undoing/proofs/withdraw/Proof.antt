@@ -62,7 +62,7 @@ returns-2 c = (
 )
 
 same-length-3 : tie.Need-same-length-3
-same-length-3 c = search needs
+same-length-3 c = c .before .before .before .before .before .before .before .before .before .before .before .before .before .before .before .before .before .before .before .undo-rows .kept .0
 
 same-length-4 : tie.Need-same-length-4
 same-length-4 c = search needs
@@ -73,8 +73,8 @@ same-length-5 c = search needs
 returns-3 : tie.Need-returns-3
 returns-3 c = (
   does-case
-      (withdraw-0 _ _ _ _ _ _ (admitted (c .before .before .before .before .before .before .before .before .before .before .before .before .before .before .before .before .before .before .before .before .before .before .before .before .before)) (c .before .before .before .before .before .before .before .before .before .before .before .before .before .before .before .before .before .before .before .before .before .before .is-broken .ensures) (c .before .before .before .before .before .before .before .before .before .before .before .before .before .before .before .before .before .before .before .before .before .if1 .left) (c .before .before .before .before .before .before .before .before .before .before .before .before .before .before .before .before .before .before .undo-rows .ensures) (c .before .before .before .before .before .before .before .before .before .before .before .before .put-status .ensures))
-      (ap (λ (d : Desk). (0, d)) (c .put-desk .ensures .1 ∙ c .before .before .before .before .before .before .withdraw .ensures ∙ ap (closed _) (c .before .before .before .before .before .before .before .desk-in .ensures)))
+      (withdraw-0 _ _ _ _ _ _ (admitted (c .before .before .before .before .before .before .before .before .before .before .before .before .before .before .before .before .before .before .before .before .before .before .before .before .before .before)) (c .before .before .before .before .before .before .before .before .before .before .before .before .before .before .before .before .before .before .before .before .before .before .before .is-broken .ensures) (c .before .before .before .before .before .before .before .before .before .before .before .before .before .before .before .before .before .before .before .before .before .before .if1 .left) (c .before .before .before .before .before .before .before .before .before .before .before .before .before .before .before .before .before .before .before .undo-rows .ensures) (c .before .before .before .before .before .before .before .before .before .before .before .before .before .put-status .ensures))
+      (ap (λ (d : Desk). (0, d)) (c .put-desk .ensures .1 ∙ c .before .before .before .before .before .before .before .withdraw .ensures ∙ ap (closed _) (c .before .before .before .before .before .before .before .before .desk-in .ensures)))
       refl,
   search needs,
 )

@@ -35,6 +35,15 @@ part-columns-sound-start-3 c = search needs
 part-columns-sound-end-3 : tie.Need-part-columns-sound-end-3
 part-columns-sound-end-3 c = search needs
 
+sub-columns-sound-4 : tie.Need-sub-columns-sound-4
+sub-columns-sound-4 c = search needs
+
+part-columns-sound-start-4 : tie.Need-part-columns-sound-start-4
+part-columns-sound-start-4 c = search needs
+
+part-columns-sound-end-4 : tie.Need-part-columns-sound-end-4
+part-columns-sound-end-4 c = search needs
+
 columns-sound-requires : tie.Need-columns-sound-requires
 columns-sound-requires c κs = search needs
 
@@ -56,5 +65,8 @@ is-sound-spec =
     sub-columns-sound-3
     part-columns-sound-start-3
     part-columns-sound-end-3
+    sub-columns-sound-4
+    part-columns-sound-start-4
+    part-columns-sound-end-4
     columns-sound-requires
     returns)

@@ -45,7 +45,7 @@ fn go_on(lent: &mut compare::Store, call: &Call) -> Result<[u64; 3], Refusal> {
     let compare::Store { data, undo, status, desk } = lent;
     let mut store = Store::from_kept_words(data, undo, status, *desk);
     let answer = station_call(&mut store, call);
-    // The desk is taken back after a refusal too: the library must not have changed it.
+    // The desk is taken back after a refusal too: 10 marks a session, and no other may change it.
     *desk = *store.desk().words();
     answer
 }

@@ -8,8 +8,13 @@ use crate::layout::{
 };
 use crate::random::Random;
 
-const BROKEN: Expected =
-    &[("read", &[6]), ("update", &[6]), ("delete", &[6]), ("withdraw", &[6]), ("sweep", &[6])];
+const BROKEN: Expected = &[
+    ("read", &[6]),
+    ("update", &[6, 18]),
+    ("delete", &[6, 18]),
+    ("withdraw", &[6]),
+    ("sweep", &[6]),
+];
 
 /// A pointer in a chain of at least one undo version.
 pub(super) struct Link {

@@ -1,4 +1,4 @@
-//! Desks that break one rule each, and sound ones at the limits.
+//! Desks that break one rule each, and sound ones at the limits or with spoiled sessions.
 
 use super::{Damage, Expected, hot_row};
 use crate::random::Random;
@@ -15,6 +15,19 @@ const UNSOUND: Expected = &[
     ("commit", &[2]),
     ("withdraw", &[2]),
     ("sweep", &[2]),
+];
+
+/// What spoiled sessions are answered: "A spoiled session may read and withdraw" (02, T-07).
+const SPOILED: Expected = &[
+    ("begin", &[0]),
+    ("next", &[4, 18]),
+    ("insert", &[4, 18]),
+    ("update", &[4, 18]),
+    ("delete", &[4, 18]),
+    ("read", &[0, 4, 5, 7]),
+    ("commit", &[4, 18]),
+    ("withdraw", &[0, 4]),
+    ("sweep", &[0, 5]),
 ];
 
 /// A desk that keeps every rule, near its limits: three sessions, the last with a list of two.
@@ -42,7 +55,7 @@ fn desk(
     })
 }
 
-/// Desks that break one rule each, and sound ones at the limits.
+/// Desks that break one rule each, and sound ones at the limits or with spoiled sessions.
 pub fn desks() -> Vec<Damage> {
     let unsound = |name, spoil: fn(&mut Store, &mut Random)| desk(name, UNSOUND, spoil);
     vec![
@@ -73,10 +86,20 @@ pub fn desks() -> Vec<Damage> {
         unsound("unused place with a statement", |store, random| {
             *store.statement_mut(3 + random.index(13)) = random.pick(&[1, 1 << 31, u32::MAX]);
         }),
+        unsound("mark above 1", |store, random| {
+            *store.mark_mut(random.index(3)) = random.pick(&[2, 3, 1 << 31, u32::MAX]);
+        }),
+        unsound("mark beyond 8 bits, low bits sound", |store, random| {
+            *store.mark_mut(random.index(3)) = random.pick(&[1 << 8, 1 << 16 | 1]);
+        }),
+        unsound("unused place with a mark", |store, random| {
+            *store.mark_mut(3 + random.index(13)) = random.pick(&[1, 2, u32::MAX]);
+        }),
         unsound("unused place with a member", |store, random| {
             *store.member_mut(3 + random.index(13), random.index(15)) = 1;
         }),
         unsound("last unused place with a statement", |store, _| *store.statement_mut(15) = 1),
+        unsound("last unused place with a mark", |store, _| *store.mark_mut(15) = 1),
         unsound("last unused place with a member", |store, _| *store.member_mut(15, 14) = 1),
         unsound("last unused place of a list with a member", |store, random| {
             *store.member_mut(random.index(3), 14) = random.pick(&[1, 7]);
@@ -99,10 +122,21 @@ pub fn desks() -> Vec<Damage> {
         desk("last statement but one", &[("next", &[0])], |store, _| {
             *store.statement_mut(1) = 65_534;
         }),
-        desk("sixteen sessions, full lists, last number", &[("begin", &[12])], |store, _| {
+        desk("all sessions spoiled", SPOILED, |store, _| {
+            (0..3).for_each(|place| *store.mark_mut(place) = 1);
+        }),
+        desk("some session spoiled", &[("commit", &[0, 18])], |store, random| {
+            *store.mark_mut(random.index(3)) = 1;
+        }),
+        desk("spoiled in the last statement", &[("next", &[0, 18])], |store, _| {
+            *store.statement_mut(1) = 65_535;
+            *store.mark_mut(1) = 1;
+        }),
+        desk("sixteen sessions, full lists, last number", &[("begin", &[12])], |store, random| {
             *store.next_mut() = 32_576;
             for place in 0..16 {
                 *store.number_mut(place) = 32_560 + place as u32;
+                *store.mark_mut(place) = random.pick(&[0, 1]);
                 (0..15).for_each(|member| *store.member_mut(place, member) = 1 + member as u32);
             }
         }),

@@ -81,7 +81,7 @@ fn probe(
     for call in probes(random, store, row) {
         let answer = pair.must_agree(&call);
         tally.add(&call, answer);
-        if answer.code == 0 {
+        if answer.changes() {
             pair.reset(store);
         }
     }
@@ -97,7 +97,8 @@ impl Drop for NamedOnPanic<'_> {
     }
 }
 
-/// A store in the midst of work: sessions open, and chains of several versions.
+/// A store in the midst of work: sessions open, some of them spoiled, and chains of several
+/// versions.
 pub fn working_store(seed: u64) -> Store {
     let mut random = Random::new(seed);
     let mut store = Store::unformatted(1 + random.index(3), 1 + random.index(3));
@@ -109,15 +110,32 @@ pub fn working_store(seed: u64) -> Store {
             Plain.call(&mut store, &call);
         }
     }
+    end_work(&mut store, &mut random);
     store
 }
 
-/// A store that was worked on, closed and sealed: open accepts it.
+/// Lets some sessions commit, so that others have a conflict before them which they have not met,
+/// and marks some as if they had.
+fn end_work(store: &mut Store, random: &mut Random) {
+    for session in store.sessions().collect::<Vec<_>>() {
+        if random.once_in(3) {
+            Plain.call(store, &Call::Commit { session });
+        }
+    }
+    for place in 0..store.sessions().count() {
+        if random.once_in(5) {
+            *store.mark_mut(place) = 1;
+        }
+    }
+}
+
+/// A store that was worked on, closed and sealed: open accepts it. Spoiled sessions cannot commit.
 pub fn sealed_store(seed: u64) -> Store {
     let mut store = working_store(seed);
     for session in store.sessions().collect::<Vec<_>>() {
         let close = match session % 3 {
             0 => Call::Withdraw { session },
+            _ if store.is_spoiled(session) => Call::Withdraw { session },
             _ => Call::Commit { session },
         };
         Plain.call(&mut store, &close);

@@ -10,13 +10,14 @@ const RESERVED: u8 = 0b11;
 
 const MET: Expected = &[
     ("read", &[0, 17]),
-    ("update", &[0, 17]),
-    ("delete", &[0, 17]),
+    ("update", &[0, 17, 18]),
+    ("delete", &[0, 17, 18]),
     ("withdraw", &[0]),
     ("sweep", &[0]),
 ];
 
-const MET_OR_BROKEN: Expected = &[("read", &[6, 17]), ("update", &[6, 17]), ("delete", &[6, 17])];
+const MET_OR_BROKEN: Expected =
+    &[("read", &[6, 17]), ("update", &[6, 17, 18]), ("delete", &[6, 17, 18])];
 
 /// The creator or expirer of one of the chain's versions, the slot's own among them.
 fn some_writer(store: &Store, link: &Link, random: &mut Random) -> u64 {

@@ -1,4 +1,10 @@
 -- `Desk::begin` meets its contract. Assumes nothing.
+use mathlib.Core.Path.{ap, _∙_}
+use Prim.Native.Nat.{ℕ, _+_, _*_}
+use lib.ListN.{set, take}
+use lib.Seq.{sets}
+use Rattle.columns.specs.Limits.{members}
+use Rattle.desk.specs.Desk.{firstStatement}
 use Rattle.desk.specs.Turns.{begun}
 use borrow.Author.Needs.{needs}
 use Rattle.desk.proofs.Desk.begin.Statement.{statement}
@@ -28,12 +34,29 @@ mul-self-2 c = search needs
 element-write-self-2 : tie.Need-element-write-self-2
 element-write-self-2 c = search needs
 
+mul-self-3 : tie.Need-mul-self-3
+mul-self-3 c = search needs
+
+element-write-self-3 : tie.Need-element-write-self-3
+element-write-self-3 c = search needs
+
 add-self : tie.Need-add-self
 add-self c = search needs
 
 returns : tie.Need-returns
 unfolding begun
-returns c = cc
+returns c =
+    let counted = c .before .before in
+    let start = counted .before .before .before in
+    let k = counted .open-count .ensures .0 in
+    let desk = start .args .t1 in
+    λ i. record {
+      next = desk .next + 1;
+      numbers = set (desk .numbers) (k i) (desk .next);
+      statements = set (desk .statements) (k i) firstStatement;
+      marks = set (desk .marks) (k i) 0;
+      lists = (c .with-list .ensures ∙ ap (λ (n : ℕ). sets (desk .lists) (n * members) (take members (desk .numbers))) k) i;
+    }
 
 pub begin-spec : {M : Type 1} → statement M
 begin-spec =
@@ -47,5 +70,7 @@ begin-spec =
     element-write-self
     mul-self-2
     element-write-self-2
+    mul-self-3
+    element-write-self-3
     add-self
     returns)
