@@ -7,7 +7,7 @@
 mod common;
 
 use common::Station;
-use compare::{Answer, Call, Engine, Plain, Store, WORDS};
+use compare::{Answer, Call, Engine, Plain, Store, WORDS, both_answer};
 
 const BOTH: [&dyn Engine; 2] = [&Station, &Plain];
 
@@ -135,20 +135,9 @@ const fn finds(count: usize, writes: u32) -> Answers {
     [Answer::done(read), Answer::refused(writes), Answer::refused(writes)]
 }
 
-/// Makes the call with both engines, each of which must answer this. A refused call leaves areas
-/// and desk as they were, but for the mark that 10 sets, and both leave the same.
+/// Makes the call with both engines; the store stays as it was for the next.
 fn answers(what: &str, store: &Store, call: &Call, answer: Answer) {
-    let [one, two] = BOTH.map(|engine| {
-        let mut copy = store.clone();
-        let name = engine.name();
-        assert_eq!(engine.call(&mut copy, call), answer, "{name}, {what}: {call:?}");
-        if answer.code != 0 {
-            let difference = store.difference_refused(&copy, call, answer.code);
-            assert_eq!(difference, None, "{name}, {what}: a refused {call:?} changes it");
-        }
-        copy
-    });
-    assert_eq!(one.difference(&two), None, "{what}: {call:?}");
+    both_answer(BOTH, what, store, call, answer);
 }
 
 fn answer_all(what: &str, store: &Store, session: u64, expected: Answers) {

@@ -24,4 +24,5 @@ pub mod vendor;
 
 pub use call::{Answer, Call};
 pub use engine::{Engine, Plain};
+pub use pair::both_answer;
 pub use store::{Store, WORDS};

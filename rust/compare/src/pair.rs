@@ -55,3 +55,18 @@ fn check_refusal(before: &Store, after: &Store, call: &Call, answer: Answer) {
         panic!("{call:?} is refused with {} and changes {difference}", answer.code);
     }
 }
+
+/// Makes the call with both engines, which must answer this and [agree](Pair::must_agree), and hands
+/// back what they leave.
+pub fn both_answer(
+    engines: [&dyn Engine; 2],
+    what: &str,
+    store: &Store,
+    call: &Call,
+    answer: Answer,
+) -> Store {
+    let mut pair = Pair::new(engines, store.clone());
+    assert_eq!(pair.must_agree(call), answer, "{what}: {call:?}");
+    let [left, _] = pair.stores;
+    left
+}
