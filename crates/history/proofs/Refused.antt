@@ -46,7 +46,7 @@ use Rattle.history.specs.Spoiled.{replaces}
 use Rattle.history.proofs.Steps.{refusalOf, whenDone, whenRefused, step-settled}
 use Rattle.history.proofs.Worlds.{Good}
 
--- ---- a refused call leaves the world
+-- ---- what a refused call leaves
 
 pub done-refused : (a b n : ℕ) (y : List ℕ) → done a b y ≡ refused n → ⊥
 done-refused a b n y e = let z : _≡_ {A = ℕ} 0 1 = cc in absurd (omega arith)

@@ -76,7 +76,7 @@ module _ (a : Areas) (d : Desk) (x : ℕ) where
         let n : s .looked ≡ s′ .looked = ap (λ (n : ℕ × Place × ℕ). n .2) e in
         λ i. record { answer = b i; place = at i; looked = n i }
 
--- ---- a refused call leaves everything, and reports 0
+-- ---- a refused call leaves the areas, and reports 0; the desk stays but for the mark of a 10
 
 module _ (a : Areas) (d : Desk) (x : ℕ) where
   pub insert-refused-leaves : (body : List ℕ) → (insertRule a d x body .0 .0 ≡ 0 → ⊥)

@@ -51,7 +51,7 @@ module _ (a : Areas) (d : Desk) (first quota : ℕ) where
   abbrev no : ℕ → (ℕ × ℕ × ℕ) × Areas
   no k = ((k, 0, 0), a)
 
-  -- "Every refusal leaves areas and desk unchanged", "Each number reported by a refused call is 0"
+  -- "Every refusal leaves areas and desk unchanged" (but for a 10: "02, T-07"), "Each number reported by a refused call is 0"
   pub sweep-refused-leaves : (sweepRule a d first quota .0 .0 ≡ 0 → ⊥)
       → (sweepRule a d first quota .0 .1 ≡ 0) × (sweepRule a d first quota .0 .2 ≡ 0) × (sweepRule a d first quota .1 ≡ a)
   unfolding sweepRule

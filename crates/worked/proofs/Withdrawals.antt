@@ -1,24 +1,22 @@
 -- A withdrawal on a page whose rows behind the first are all zeros (`Zeros`): row 0 says what it does. Assumes nothing.
 use Prim.Native.Nat.{ℕ, zero, suc, _+_}
 use mathlib.Core.Path.{_≡_, refl, sym, ap, _∙_}
-use mathlib.Core.Bool.{Bool, true, false, not, true≢false}
+use mathlib.Core.Bool.{Bool, true, false, not}
 use mathlib.Core.List.{List}
 use lib.ListN.{length}
-use lib.Dec.{eqb, ltb}
 use borrow.Author.Tests.{eq-eqb, ne-eqb}
 use Rattle.ground.specs.Range.{allBelow}
-use Rattle.ground.proofs.Ranges.{and-true-left}
 use Rattle.kind.specs.Kind.{rows, lengthsOk}
 use Rattle.kind.specs.Areas.{areas, Both, both}
 use Rattle.status.specs.declared.Status.the-variants.{Withdrawn}
 use Rattle.status.specs.Status.{putStatus}
 use Rattle.records.specs.Slot.{slotAt}
-use Rattle.columns.specs.Limits.{sessions}
 use Rattle.places.specs.Open.{placeIn, isOpen}
 use Rattle.desk.specs.declared.Desk.{Desk}
 use Rattle.desk.specs.Desk.{firstStatement}
 use Rattle.desk.specs.Sound.{sound}
 use Rattle.desk.specs.Turns.{closed}
+use Rattle.sessions.proofs.Changes.{isOpen-used}
 use Rattle.putback.specs.PutBack.{own, ownMade, undoneRow}
 use Rattle.undoing.specs.Undoing.{brokenRow, someBroken, undoneFrom, undone, withdrawRefusal, withdrawn, withdrawRule}
 use Rattle.worked.proofs.Zeros.{Empty, Bare, empty-here, empty-on, bare-empty, all-bare}
@@ -63,11 +61,6 @@ module _ (x k : ℕ) (some : x ≡ 0 → ⊥) where
 
 -- ---- the withdrawal
 
-open-some : (x : ℕ) (numbers : List ℕ) → isOpen x numbers ≡ true → x ≡ 0 → ⊥
-unfolding isOpen
-open-some x numbers h z =
-    true≢false (sym (and-true-left (not (eqb x 0)) (ltb (placeIn x numbers) sessions) h) ∙ ap not (eq-eqb x 0 z))
-
 module _ (d u s d′ u′ : List ℕ) (desk : Desk) (x : ℕ) where
   pub withdraw-one : lengthsOk (length d) (length u) (length s) ≡ true
       → sound desk ≡ true
@@ -80,5 +73,5 @@ module _ (d u s d′ u′ : List ℕ) (desk : Desk) (x : ℕ) where
       → withdrawRule (areas d u s) desk x ≡ ((0, closed (placeIn x (desk .numbers)) desk), areas d′ u′ (putStatus x Withdrawn s))
   unfolding withdrawRule withdrawRefusal withdrawn undone
   withdraw-one l b o page h h′ w row =
-      rw (l, b, o, broken-one x firstStatement (open-some x (desk .numbers) o) d u h page w, page, undone-one x firstStatement (open-some x (desk .numbers) o) (both d u) d′ u′ h′ row)
+      rw (l, b, o, broken-one x firstStatement (isOpen-used x (desk .numbers) o) d u h page w, page, undone-one x firstStatement (isOpen-used x (desk .numbers) o) (both d u) d′ u′ h′ row)
       refl
