@@ -2,11 +2,12 @@
 -- every chain is whole, or under 17, because no number is reserved. Assumes nothing.
 use Prim.Native.Nat.{ℕ, suc, _+_, _<_}
 use mathlib.Core.Path.{_≡_, refl, ap, ap₂, sym, subst, _∙_}
+use mathlib.Core.Logic.{inl, inr}
 use mathlib.Core.Bool.{Bool, true, false, not, _&&_, _||_, cond}
 use mathlib.Core.List.{List, [], _∷_}
 use native.Mathlib.Omega.{arith}
 use lib.Dec.{eqb, ltb}
-use borrow.Author.Tests.{eqb-true, eq-eqb, ne-eqb, leb-false, ltb-false}
+use borrow.Author.Tests.{eq-eqb, ne-eqb, leb-false, ltb-false}
 use Rattle.ground.specs.Refuse.{firstOf}
 use Rattle.ground.proofs.Ranges.{all-intro, or-false-left}
 use Rattle.ground.proofs.Refusals.{lacks, firstOf-lacks}
@@ -43,6 +44,8 @@ use Rattle.machine.specs.Lines.{Call, refused, done, isDone, format, opens, sea
 use Rattle.machine.proofs.Basics.{true-false}
 use Rattle.history.specs.World.{World, world, Response, says as answerOf, after, marking}
 use Rattle.history.specs.Spoiled.{replaces}
+use Rattle.history.specs.Observers.{Replaces}
+use Rattle.history.proofs.Told.{every-replaces}
 use Rattle.history.proofs.Steps.{refusalOf, whenDone, whenRefused, step-settled}
 use Rattle.history.proofs.Worlds.{Good}
 
@@ -121,25 +124,20 @@ leaves w c n =
 -- a 10 is answered to a session that is open
 pub lost-open : (w : World) (c : Call) (n : ℕ) → replaces n c ≡ true → refusalOf w c ≡ 10 → isOpen n (w .desk .numbers) ≡ true
 unfolding updateRefusal deleteRefusal
-lost-open w (update x q y) n mine e =
-    rw (eqb-true n x mine)
-    (told-past (w .held .«data») (w .held .undo) (w .held .status) (w .desk) x 10
-    (updateRest (w .held .«data») (w .held .undo) (w .held .status) (w .desk) x q y (noRow (w .held .«data») q || badBody y))
-    (λ z. omega arith) (λ z. omega arith) (λ z. omega arith) (λ z. omega arith) e .1)
-lost-open w (delete x q) n mine e =
-    rw (eqb-true n x mine)
-    (told-past (w .held .«data») (w .held .undo) (w .held .status) (w .desk) x 10 (writing (w .held .«data») (w .held .undo) (w .held .status) (viewIn (w .desk) x) q [])
-    (λ z. omega arith) (λ z. omega arith) (λ z. omega arith) (λ z. omega arith) e .1)
-lost-open w (format d u s) n mine e = true-false false mine refl
-lost-open w opens n mine e = true-false false mine refl
-lost-open w seal n mine e = true-false false mine refl
-lost-open w begin n mine e = true-false false mine refl
-lost-open w (next x) n mine e = true-false false mine refl
-lost-open w (insert x y) n mine e = true-false false mine refl
-lost-open w (read x q) n mine e = true-false false mine refl
-lost-open w (commit x) n mine e = true-false false mine refl
-lost-open w (withdraw x) n mine e = true-false false mine refl
-lost-open w (sweep first quota) n mine e = true-false false mine refl
+lost-open w c n mine e = by (every-replaces n c .0 mine)
+  where
+    behind : (rest : List (Bool × ℕ)) → firstOf (asksUnspoiled (w .held .«data») (w .held .undo) (w .held .status) (w .desk) n rest) ≡ 10
+        → isOpen n (w .desk .numbers) ≡ true
+    behind rest f =
+        told-past (w .held .«data») (w .held .undo) (w .held .status) (w .desk) n 10 rest
+        (λ z. omega arith) (λ z. omega arith) (λ z. omega arith) (λ z. omega arith) f .1
+
+    by : Replaces n c → isOpen n (w .desk .numbers) ≡ true
+    by (inl (q, y, is)) =
+        behind (updateRest (w .held .«data») (w .held .undo) (w .held .status) (w .desk) n q y (noRow (w .held .«data») q || badBody y))
+        (ap (refusalOf w) (sym is) ∙ e)
+    by (inr (q, is)) =
+        behind (writing (w .held .«data») (w .held .undo) (w .held .status) (viewIn (w .desk) n) q []) (ap (refusalOf w) (sym is) ∙ e)
 
 -- the number answered is the one that the list of refusals gives
 pub refused-as : (w : World) (c : Call) (n : ℕ) → answerOf w c ≡ refused n → refusalOf w c ≡ n

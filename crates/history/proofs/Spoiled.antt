@@ -2,6 +2,7 @@
 -- Assumes nothing.
 use Prim.Native.Nat.{ℕ, suc, _+_, _≤_, _<_}
 use mathlib.Core.Path.{_≡_, refl, sym, ap, _∙_}
+use mathlib.Core.Logic.{inl, inr}
 use mathlib.Core.Bool.{Bool, true, false, not, _&&_, _||_, cond, and-false, or-true}
 use mathlib.Core.List.{List, [], _∷_}
 use native.Mathlib.Omega.{arith}
@@ -30,6 +31,8 @@ use Rattle.history.specs.World.{World, Response, says, after, afterAll, 
 use Rattle.history.specs.Spoiled.{replaces, isTen, loses, begins, spoiledFrom}
 use Rattle.history.specs.Asked.{Proper, AllProper}
 use Rattle.history.specs.Since.{accepted, formats}
+use Rattle.history.specs.Observers.{Replaces}
+use Rattle.history.proofs.Told.{every-replaces}
 use Rattle.history.proofs.Worlds.{Good}
 use Rattle.history.proofs.Steps.{refusalOf, whenDone, whenRefused, step-settled}
 use Rattle.history.proofs.Refused.{lost-open, refused-as, done-ok}
@@ -76,7 +79,6 @@ module _ (w : World) (g : Good w) (n : ℕ) (b : Bool) (before : Marks n b (w .d
   -- a session that closes takes its mark along, and no other's
   closed-told : (x : ℕ) → isOpen x (w .desk .numbers) ≡ true → Marks n b (closed (placeIn x (w .desk .numbers)) (w .desk))
   closed-told x opened o =
-      let k : ℕ = placeIn x (w .desk .numbers) in
       let place = isOpen-place x (w .desk .numbers) opened in
       closed-mark (w .desk) (g .sound) (g .long) (placeIn x (w .desk .numbers)) place n o
       ∙ before (closed-open (w .desk) (g .sound) (g .long) (placeIn x (w .desk .numbers)) place n o)
@@ -149,7 +151,7 @@ lines-told (c ∷ cs) w g p n b before =
 
 -- the next number never falls, but by an accepted format
 module _ (w : World) (g : Good w) where
-  done-grows : (c : Call) → (isFormat c && true) ≡ false → w .desk .next ≤ whenDone w c .left .desk .next
+  done-grows : (c : Call) → (isFormat c && isDone (whenDone w c .answer)) ≡ false → w .desk .next ≤ whenDone w c .left .desk .next
   unfolding freshDesk begun moved closed
   done-grows (format d u s) f = true-false true refl f
   done-grows opens f = omega (arith, g .high)
@@ -190,22 +192,7 @@ module _ (w : World) (g : Good w) where
   next-grows : (c : Call) → accepted w c ≡ false → w .desk .next ≤ after w c .desk .next
   next-grows c =
       step-settled w c (λ (t : Response). (isFormat c && isDone (t .answer)) ≡ false → w .desk .next ≤ t .left .desk .next)
-      (λ ok f. done-grows c (both c f)) (λ k e f. refused-grows c (suc k))
-    where
-      -- every call that is done is
-      both : (c : Call) → (isFormat c && isDone (whenDone w c .answer)) ≡ false → (isFormat c && true) ≡ false
-      both (format d u s) f = f
-      both opens f = refl
-      both seal f = refl
-      both begin f = refl
-      both (next x) f = refl
-      both (insert x y) f = refl
-      both (update x q y) f = refl
-      both (delete x q) f = refl
-      both (read x q) f = refl
-      both (commit x) f = refl
-      both (withdraw x) f = refl
-      both (sweep first quota) f = refl
+      (λ ok f. done-grows c f) (λ k e f. refused-grows c (suc k))
 
 -- session n has lost: its number was handed out, and where it is open it is marked
 pub record Lost (n : ℕ) (d : Desk) : Type 0 where
@@ -252,7 +239,7 @@ answered-lost : (w : World) → Good w → (c : Call) (n : ℕ) → replaces n c
 answered-lost w g c n mine e =
     let opened = lost-open w c n mine (refused-as w c 10 e) in
     record {
-      out = omega (arith, isOpen-open (w .desk) n (g .sound) opened .below, next-grows w g c (ap (λ (t : Bool). t && isDone (says w c)) (no-format c mine)));
+      out = omega (arith, isOpen-open (w .desk) n (g .sound) opened .below, next-grows w g c (ap (λ (t : Bool). t && isDone (says w c)) (no-format (every-replaces n c .0 mine))));
       marked = λ o.
           line-told w g n (isSpoiled n (w .desk)) (λ z. refl) c o
           ∙ ap (λ (t : Bool). not t && (loses n (line c (says w c)) || isSpoiled n (w .desk))) (no-begin w c n (isOpen-open (w .desk) n (g .sound) opened .below))
@@ -260,19 +247,9 @@ answered-lost w g c n mine e =
           ∙ ap (λ (t : Bool). t || isSpoiled n (w .desk)) mine;
     }
   where
-    no-format : (c : Call) → replaces n c ≡ true → isFormat c ≡ false
-    no-format (format d u s) z = true-false false z refl
-    no-format opens z = refl
-    no-format seal z = refl
-    no-format begin z = refl
-    no-format (next x) z = refl
-    no-format (insert x y) z = refl
-    no-format (update x q y) z = refl
-    no-format (delete x q) z = refl
-    no-format (read x q) z = refl
-    no-format (commit x) z = refl
-    no-format (withdraw x) z = refl
-    no-format (sweep first quota) z = refl
+    no-format : Replaces n c → isFormat c ≡ false
+    no-format (inl (r, b, is)) = ap isFormat is
+    no-format (inr (r, is)) = ap isFormat is
 
 -- and its commit is not done
 lost-uncommitted : (w : World) (n : ℕ) → Lost n (w .desk) → isDone (says w (commit n)) ≡ false

@@ -112,7 +112,7 @@ abbrev pub NothingElseAdds : Type 0
 NothingElseAdds = (x y : Run) (c : Call) → Further x c y → (r : ℕ)
     → (updates y r ≤ updates x r) ⊎ ((isDone (says (end x) c) ≡ true) × ((n : ℕ) × (b : Body) × (c ≡ update n r b)))
 
--- ---- sessions that lost a conflict
+-- ---- sessions that lost a conflict ("02, T-07")
 
 -- the call is an update or a delete of session n
 abbrev pub Replaces : ℕ → Call → Type 0
