@@ -9,7 +9,7 @@ ghost use Rattle.desk.specs.Turns.{begun, moved, closed};
 
 use columns::{Column, Limits, Lists};
 
-#[derive(Drop)]
+#[derive(Clone, Copy)]
 pub struct Desk {
     // The number that the next session gets.
     pub next: u32,

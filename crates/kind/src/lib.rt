@@ -2,7 +2,7 @@
 ghost use Rattle.std.specs.Prelude.{◌≡◌};
 ghost use Rattle.kind.specs.Kind.{pages, rows, entries, lengths_ok, length_ok};
 
-#[derive(Drop)]
+#[derive(Clone, Copy)]
 pub struct Kind {
     // page_type, engine_tag and free_space_offset of such a page
     pub code: u8,

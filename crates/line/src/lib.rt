@@ -5,7 +5,7 @@ ghost use Rattle.line.specs.Line.{same_as, verb_of, numbers_of, bodied, command_
 use numeral::Number;
 
 // The calls by name, and that a line is none.
-#[derive(Drop)]
+#[derive(Clone, Copy)]
 pub enum Verb {
     Format,
     Open,

@@ -10,7 +10,7 @@ pub const TAB: u8 = 9;
 pub const NEWLINE: u8 = 10;
 
 // A line of a text: where it begins and ends, whether a newline ends it or the text does, and the place behind it.
-#[derive(Drop)]
+#[derive(Clone, Copy)]
 pub struct Line {
     pub start: usize,
     pub end: usize,

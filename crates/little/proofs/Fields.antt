@@ -118,9 +118,9 @@ holds_sets s at [] w v after b h =
     (ap₂ ◌&&◌
     (eq-eqb (little (part at w (sets s at (digits w v)))) v (little_sets s at w v b (omega arith))
     ∙ sym (eq-eqb (little (part at w s)) (little (part at w s)) refl))
-    (holds_above s at (digits w v) (at + w) after (omega (arith, length_digits w v))))
+    (ap (λ (a : ℕ). holds (sets s a (digits w v)) (at + w) after) (add-zero at) ∙ holds_above s at (digits w v) (at + w) after (omega (arith, length_digits w v))))
 holds_sets s at (f ∷ fs) w v after b h =
     rw (← add_assoc)
     (ap₂ (λ (l : List ℕ) (b : Bool). eqb (little l) f.1 && b)
     (part_sets_below at f.0 s (at + f.0 + widths fs) (digits w v) (omega arith))
-    (holds_sets s (at + f.0) fs w v after b (omega arith)))
+    (ap (λ (a : ℕ). holds (sets s a (digits w v)) (at + f.0) (fs ++ (w, v) ∷ after)) (sym (add_assoc at f.0 (widths fs))) ∙ holds_sets s (at + f.0) fs w v after b (omega arith)))

@@ -5,7 +5,7 @@ ghost use Rattle.pointer.specs.Pointer.{pointer_to, page_in, offset_in, place_le
 
 use kind::Kind;
 
-#[derive(Drop)]
+#[derive(Clone, Copy)]
 pub struct Pointer {
     pub raw: u64,
 }

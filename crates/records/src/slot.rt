@@ -7,7 +7,7 @@ ghost use Rattle.records.specs.Slot.{slot_of, slot_fields, slot_place, slot_at, 
 
 use kind::Kind;
 
-#[derive(Drop)]
+#[derive(Clone, Copy)]
 pub struct Slot {
     pub create: u64,
     pub expire: u64,

@@ -15,7 +15,7 @@ use lines::Line;
 
 // What a script carries along beside its areas: the desk, how many bytes of the data and of the undo area the last accepted format
 // named, and whether the line it is in has been found too long.
-#[derive(Drop)]
+#[derive(Clone, Copy)]
 pub struct Footing {
     pub desk: Desk,
     pub data: usize,

@@ -1,0 +1,8 @@
+-- `columns::mark` meets its contract. Assumes nothing.
+use Rattle.columns.specs.Columns.{mark_of}
+use borrow.Author.Rules.{rules}
+use Rattle.columns.proofs.mark.Goals as goal
+
+pub returns : goal.returns
+unfolding mark_of
+returns c = cc

@@ -1,0 +1,11 @@
+-- `little::put1` meets its contract: a byte is its own one digit. Assumes nothing.
+use mathlib.Core.Path.{◌≡◌}
+use Prim.Native.Nat.{◌%◌}
+use borrow.Author.Rules.{rules}
+use native.Mathlib.Omega.{arith}
+use Rattle.little.specs.Little.{digits}
+use Rattle.little.proofs.put1.Goals as goal
+
+pub returns : goal.returns
+unfolding digits
+returns c = let low : c.args.v % 256 ≡ c.args.v = omega arith in rw low

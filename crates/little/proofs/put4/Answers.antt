@@ -1,0 +1,6 @@
+use Rattle.little.proofs.Parts.{sets_digits_add}
+use borrow.Author.Rules.{rules}
+use Rattle.little.proofs.put4.Goals as goal
+
+pub returns : goal.returns
+returns c = rw (sets_digits_add _ _ 2 2 _) (cc)

@@ -1,0 +1,9 @@
+-- `whole::rest` meets its contract. Assumes nothing.
+use Prim.Native.Nat.{◌+◌, ◌*◌}
+use native.Mathlib.Omega.{arith}
+use Rattle.whole.proofs.Abreast.{part_lent}
+use borrow.Author.Rules.{rules}
+use Rattle.whole.proofs.rest.Goals as goal
+
+pub returns : goal.returns
+returns c = part_lent c.args.p 24 8168 (c.args.p * 8192 + 24) c.args.s.now (omega arith) c.requires (omega arith)

@@ -1,0 +1,13 @@
+-- `whole::seal_page` meets its contract. Assumes nothing.
+use mathlib.Core.Path.{refl, ap, ◌∙◌}
+use Rattle.page.proofs.Headers.{page_at_lent}
+use Rattle.whole.specs.Whole.{checksum_of}
+use Rattle.whole.proofs.Wholes.{sealed_page_put}
+use borrow.Author.Rules.{rules}
+use Rattle.whole.proofs.seal_page.Goals as goal
+
+pub returns : goal.returns
+returns c =
+    let start = put.before.before.before.before.before.before in
+    sealed_page_put start.args.p _ _ (c.checksum-sum.ensures ∙ ap checksum_of (page_at_lent start.args.p start.args.s.now)) refl
+    c.put_checksum.ensures
