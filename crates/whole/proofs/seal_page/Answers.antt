@@ -8,6 +8,5 @@ use Rattle.whole.proofs.seal_page.Goals as goal
 
 pub returns : goal.returns
 returns c =
-    let start = put.before.before.before.before.before.before in
-    sealed_page_put start.args.p _ _ (c.checksum-sum.ensures ∙ ap checksum_of (page_at_lent start.args.p start.args.s.now)) refl
+    sealed_page_put c.args.p _ _ (c.checksum-sum.ensures ∙ ap checksum_of (page_at_lent c.args.p c.args.s.now)) refl
     c.put_checksum.ensures

@@ -1,0 +1,17 @@
+-- `vacant::lowest_in` meets its contract. The invariant: the search from record i on is that of the whole page. Assumes nothing.
+use mathlib.Core.Path.{◌≡◌, sym, ◌∙◌}
+use Prim.Native.Nat.{◌≤◌, ◌+◌, ◌-◌, ◌*◌}
+use native.Mathlib.Omega.{arith}
+use borrow.Author.Rules.{rules}
+use Rattle.ground.specs.Range.{first_from}
+use Rattle.ground.proofs.Ranges.{first_here, first_next, first_end}
+use Rattle.vacant.specs.Vacant.{lowest_in}
+use Rattle.vacant.proofs.Vacants.{first_start, idle, idle_read, busy_read}
+use Rattle.vacant.proofs.lowest_in.Given as goal
+
+abbrev pub invariant-loop-i : goal.invariant-loop-i
+invariant-loop-i l =
+    (l.i ≤ l.count) × (first_from (idle l.size l.page) l.i (l.count - l.i) ≡ first_from (idle l.size l.page) 0 l.count)
+
+abbrev pub decreases-loop-i : goal.decreases-loop-i
+decreases-loop-i l = l.count - l.i
