@@ -1,0 +1,8 @@
+-- `doubt::in_doubt` meets its contract. Assumes nothing.
+use borrow.Author.Rules.{rules}
+use Rattle.doubt.specs.Doubt.{in_doubt}
+use Rattle.doubt.proofs.in_doubt.Goals as goal
+
+pub returns : goal.returns
+unfolding in_doubt
+returns c = rw (c.is_doubtful.ensures, c.is_doubtful-2.ensures)
