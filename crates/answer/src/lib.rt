@@ -1,5 +1,7 @@
 // What a call answers: a name for each number of document 01's table ("01, When the desk says no") and for those
 // that document 02 adds.
+#![tactic(auto)]
+
 ghost use Rattle.std.specs.Prelude.{◌≡◌};
 ghost use Rattle.answer.specs.Code.{code_of};
 

@@ -1,5 +1,7 @@
 // The columns of the desk ("01, Sessions and sight"): how many places they have, a list copied in, a column without some places, and
 // the mark. A column is a list of numbers here; what makes it sound is said in the crate above.
+#![tactic(auto)]
+
 ghost use Rattle.std.specs.Prelude.{◌≡◌, ◌+◌, ◌<◌, ◌≤◌, length, take};
 ghost use Rattle.std.proofs.lemmas.List.Edits.{sets};
 ghost use Rattle.columns.specs.Limits.{sessions, members, places};

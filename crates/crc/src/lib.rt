@@ -1,5 +1,7 @@
 // CRC32C (Castagnoli), the checksum of a page ("01, The page"), worked a byte at a time from a table (02, T-02): of one run of
 // bytes, where each look at the table waits for the one before it, or of four abreast, a byte of each in turn, which do not wait for each other.
+#![tactic(auto)]
+
 mod table;
 
 ghost use Rattle.std.specs.Prelude.{◌≡◌, ◌<◌, ◌^◌};

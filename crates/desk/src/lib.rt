@@ -1,5 +1,7 @@
 // The desk: the session record that goes into each call and comes back ("01, Sessions and sight"). It is columns, so that a
 // check can be lent them without a copy. Unused places are zero; there is no count.
+#![tactic(auto)]
+
 ghost use Rattle.std.specs.Prelude.{◌≡◌, ◌<◌, ◌≤◌, length, get_or};
 ghost use Rattle.columns.specs.Limits.{sessions, places, last_statement};
 ghost use Rattle.places.specs.Open.{open_count};

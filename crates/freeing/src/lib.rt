@@ -1,6 +1,8 @@
 // Emptying and freeing ("01, The page": "Whatever is emptied or freed becomes all zeros"), for withdraw, which touches pages with the
 // session's number, and for the sweep: "sweeping touches pages alike but leaves txn_id". The sweep writes many records of few pages, so
 // its writers only note in `due` that the page's count is due, one flag for each page, and `tally` counts each such page once.
+#![tactic(auto)]
+
 ghost use Rattle.std.specs.Prelude.{◌≡◌, ◌≤◌, ◌<◌, length};
 ghost use Rattle.kind.specs.Kind.{data_kind, undo_kind, pages, rows, entries};
 ghost use Rattle.page.specs.Count.{Roomy};

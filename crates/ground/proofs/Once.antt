@@ -9,3 +9,7 @@ once p q = (p.answers ∙ sym q.answers, p.leaves ∙ sym q.leaves)
 -- a call does what the case of its rule says
 pub does_case : {A B : Type 0} {rule : A × B} {a x : A} {b y : B} → rule ≡ (x, y) → a ≡ x → b ≡ y → Does rule a b
 does_case e p q = record { answers = p ∙ sym (ap (λ r. r.0) e); leaves = q ∙ sym (ap (λ r. r.1) e) }
+
+-- two facts at once, for a goal that asks each under a name of its own
+pub by_halves : {A B C : Type 0} → (A → B → C) → A × B → C
+by_halves f h = f h.0 h.1

@@ -1,4 +1,6 @@
 // The kinds of page ("01, The page", the table), and the lengths that areas may have.
+#![tactic(auto)]
+
 ghost use Rattle.std.specs.Prelude.{◌≡◌};
 ghost use Rattle.kind.specs.Kind.{pages, rows, entries, lengths_ok, length_ok};
 

@@ -1,5 +1,7 @@
 // Numbers of 1, 2, 4 and 8 bytes in lent bytes, lowest byte first ("01, The page": all numbers are little-endian). Wider ones
 // are made of two narrower ones; the compiler makes one load or store of each. The laws over the width are in proofs/.
+#![tactic(auto)]
+
 ghost use Rattle.std.specs.Prelude.{◌≡◌, ◌+◌, ◌<◌, ◌≤◌, length, replicate};
 ghost use Rattle.std.proofs.lemmas.List.Edits.{sets};
 ghost use Rattle.little.specs.Little.{little, digits, part};

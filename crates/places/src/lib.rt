@@ -1,5 +1,7 @@
 // The places of the desk's columns: when a run of them ascends, when the places of all sessions are sound, how many sessions are open,
 // and where one stands ("01, Sessions and sight"). The columns are lent, and no copy of them is made.
+#![tactic(auto)]
+
 ghost use Rattle.std.specs.Prelude.{◌≡◌, ◌&&◌, ◌+◌, ◌-◌, ◌≤◌, length, eqb};
 ghost use Rattle.ground.specs.Range.{all_below};
 ghost use Rattle.columns.specs.Limits.{sessions, places as all-places};

@@ -1,4 +1,6 @@
 // Undo pointers: 4 × 2^56 + page × 2^24 + offset × 2^8 ("01, The page").
+#![tactic(auto)]
+
 ghost use Rattle.std.specs.Prelude.{◌≡◌, ◌<◌, ◌≤◌, ◌^◌};
 ghost use Rattle.kind.specs.Kind.{undo_kind};
 ghost use Rattle.pointer.specs.Pointer.{pointer_to, page_in, offset_in, place_led, lead_of, well_formed, at_entry};

@@ -1,4 +1,6 @@
 // The status of a session's number: two bits of the status page ("01, The page").
+#![tactic(auto)]
+
 ghost use Rattle.std.specs.Prelude.{◌≡◌, ◌<◌, ◌^◌, length};
 ghost use Rattle.kind.specs.Kind.{page_size};
 ghost use Rattle.status.specs.Status.{numbers_to_page, status_shift, put_bits_in, bits_of, status_of, status_at, put_status};

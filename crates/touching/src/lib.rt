@@ -1,5 +1,7 @@
 // Writes that touch: "A page in which insert, update, delete or withdraw writes or frees a slot or entry is touched and gets the
 // session's number as txn_id", and its item_count is counted anew ("01, The page"). No caller keeps a set of touched pages.
+#![tactic(auto)]
+
 ghost use Rattle.std.specs.Prelude.{◌≡◌, ◌<◌, length};
 ghost use Rattle.kind.specs.Kind.{rows, entries};
 ghost use Rattle.touching.specs.Touching.{with_slot, with_meta, with_entry};

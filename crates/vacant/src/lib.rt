@@ -1,5 +1,7 @@
 // The lowest record of an area that is not in use: "the lowest empty slot", "the lowest free entry" ("01, Writes, withdrawal,
 // sweep"). One search for both: a slot's create and an entry's writer are the first 8 bytes of the record.
+#![tactic(auto)]
+
 ghost use Rattle.std.specs.Prelude.{◌≡◌, ◌*◌, ◌≤◌, length};
 ghost use Rattle.kind.specs.Kind.{page_size, pages};
 ghost use Rattle.page.specs.Count.{Roomy};

@@ -1,6 +1,6 @@
 -- Whole pages: the checksum, a page that is right, and a page as format writes it ("01, The page"; 3 of "01, When the desk says
 -- no"). Assumes nothing.
-use Rattle.std.specs.Prelude.{ℕ, ◌+◌, ◌-◌, Bool, List, ◌++◌, replicate}
+use Rattle.std.specs.Prelude.{ℕ, ◌-◌, Bool, List, ◌++◌, replicate}
 use Rattle.std.proofs.lemmas.List.Edits.{sets}
 use Rattle.little.specs.Little.{digits, part, bytes_of, holds}
 use Rattle.crc.specs.Crc.{crc_of}

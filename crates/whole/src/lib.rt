@@ -1,5 +1,7 @@
 // Whole pages: the checksum, the check of a header, and a page as format and seal write it ("01, The page"); and four pages at once, whose
 // checksums are worked abreast (02, T-02).
+#![tactic(auto)]
+
 ghost use Rattle.std.specs.Prelude.{◌≡◌, ◌+◌, ◌*◌, ◌<◌, ◌≤◌, ◌^◌, length};
 ghost use Rattle.std.proofs.lemmas.List.Edits.{sets};
 ghost use Rattle.kind.specs.Kind.{page_size};

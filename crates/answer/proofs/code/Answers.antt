@@ -1,5 +1,4 @@
 -- `answer::code` meets its contract: each arm knows which answer it was given. Assumes nothing.
-use borrow.Author.Rules.{rules}
 use Rattle.answer.proofs.code.Goals as goal
 
 pub returns-in-Done : goal.returns-in-Done

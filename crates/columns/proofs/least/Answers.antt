@@ -1,13 +1,8 @@
 -- `columns::least` meets its contract. The loop's invariant: the smallest from here on is the smallest from the start. Assumes
 -- nothing.
-use mathlib.Core.Path.{◌≡◌, refl, sym, ◌∙◌}
-use mathlib.Core.Logic.{⊎_elim}
-use Prim.Native.Nat.{◌≤◌, ◌-◌}
+use mathlib.Core.Path.{refl, sym, ◌∙◌}
 use native.Mathlib.Omega.{arith}
-use lib.ListN.{length, drop}
-use Rattle.columns.specs.Columns.{smallest}
 use Rattle.columns.proofs.Columns.{smallest_take, smallest_pass, smallest_end}
-use borrow.Author.Rules.{rules}
 use Rattle.columns.proofs.least.Goals as goal
 use Rattle.columns.proofs.least.Goals.{then-x-low, else-x-low}
 

@@ -1,13 +1,9 @@
 -- `columns::least` meets its contract. The loop's invariant: the smallest from here on is the smallest from the start. Assumes
 -- nothing.
-use mathlib.Core.Path.{◌≡◌, refl, sym, ◌∙◌}
-use mathlib.Core.Logic.{⊎_elim}
+use mathlib.Core.Path.{◌≡◌}
 use Prim.Native.Nat.{◌≤◌, ◌-◌}
-use native.Mathlib.Omega.{arith}
 use lib.ListN.{length, drop}
 use Rattle.columns.specs.Columns.{smallest}
-use Rattle.columns.proofs.Columns.{smallest_take, smallest_pass, smallest_end}
-use borrow.Author.Rules.{rules}
 use Rattle.columns.proofs.least.Given as goal
 
 abbrev pub invariant-loop-i : goal.invariant-loop-i

@@ -1,6 +1,5 @@
 -- `columns::mark` meets its contract. Assumes nothing.
 use Rattle.columns.specs.Columns.{mark_of}
-use borrow.Author.Rules.{rules}
 use Rattle.columns.proofs.mark.Goals as goal
 
 pub returns : goal.returns

@@ -1,10 +1,8 @@
 -- `columns::pull_up` meets its contract. The loops' invariant: pulling up from here on equals pulling up from the start. Assumes
 -- nothing.
-use mathlib.Core.Path.{◌≡◌, refl, sym, ◌∙◌}
-use Prim.Native.Nat.{◌+◌, ◌-◌, ◌≤◌}
+use mathlib.Core.Path.{refl, sym, ◌∙◌}
 use native.Mathlib.Omega.{arith}
-use lib.ListN.{length}
-use Rattle.columns.proofs.Columns.{pull, pull_up, pull_zero, pull_end, pull_without}
+use Rattle.columns.proofs.Columns.{pull_up, pull_zero, pull_end, pull_without}
 use borrow.Author.Rules.{rules}
 use Rattle.columns.proofs.pull_up.Goals as goal
 

@@ -1,11 +1,9 @@
 -- `columns::pull_up` meets its contract. The loops' invariant: pulling up from here on equals pulling up from the start. Assumes
 -- nothing.
-use mathlib.Core.Path.{◌≡◌, refl, sym, ◌∙◌}
+use mathlib.Core.Path.{◌≡◌}
 use Prim.Native.Nat.{◌+◌, ◌-◌, ◌≤◌}
-use native.Mathlib.Omega.{arith}
 use lib.ListN.{length}
-use Rattle.columns.proofs.Columns.{pull, pull_up, pull_zero, pull_end, pull_without}
-use borrow.Author.Rules.{rules}
+use Rattle.columns.proofs.Columns.{pull}
 use Rattle.columns.proofs.pull_up.Given as goal
 
 abbrev pub invariant-loop-i : goal.invariant-loop-i

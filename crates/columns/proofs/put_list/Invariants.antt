@@ -1,12 +1,9 @@
 -- `columns::put_list` meets its contract. The loop's invariant: the first i numbers are copied. Assumes nothing.
-use mathlib.Core.Path.{◌≡◌, refl, ap, ◌∙◌}
-use Prim.Native.Nat.{ℕ, ◌≤◌, ◌-◌}
-use native.Mathlib.Omega.{arith}
+use mathlib.Core.Path.{◌≡◌}
+use Prim.Native.Nat.{◌≤◌, ◌-◌}
 use lib.ListN.{length}
-use lib.Seq.{paste, paste-zero}
+use lib.Seq.{paste}
 use Rattle.columns.specs.Limits.{members}
-use Rattle.columns.proofs.Columns.{paste_next, paste_sets}
-use borrow.Author.Rules.{rules}
 use Rattle.columns.proofs.put_list.Given as goal
 
 abbrev pub invariant-loop-i : goal.invariant-loop-i

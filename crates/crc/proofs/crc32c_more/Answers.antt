@@ -1,8 +1,6 @@
 -- `crc::crc32c_more` meets its contract. The loop's invariant is `Going`, and its measure the bytes left. Assumes nothing.
-use Prim.Native.Nat.{◌-◌}
 use borrow.Author.Rules.{rules}
-use lib.ListN.{length}
-use Rattle.crc.proofs.CrcLaws.{Going, going_start, going_next, going_end}
+use Rattle.crc.proofs.CrcLaws.{going_start, going_next, going_end}
 use Rattle.crc.proofs.crc32c_more.Goals as goal
 
 pub loop-i-init : goal.loop-i-init

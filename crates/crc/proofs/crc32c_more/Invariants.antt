@@ -1,8 +1,7 @@
 -- `crc::crc32c_more` meets its contract. The loop's invariant is `Going`, and its measure the bytes left. Assumes nothing.
 use Prim.Native.Nat.{◌-◌}
-use borrow.Author.Rules.{rules}
 use lib.ListN.{length}
-use Rattle.crc.proofs.CrcLaws.{Going, going_start, going_next, going_end}
+use Rattle.crc.proofs.CrcLaws.{Going}
 use Rattle.crc.proofs.crc32c_more.Given as goal
 
 abbrev pub invariant-loop-i : goal.invariant-loop-i

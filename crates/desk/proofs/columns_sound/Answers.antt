@@ -1,6 +1,5 @@
 -- `desk::columns_sound` meets its contract. Assumes nothing.
 use mathlib.Core.Bool.{and_assoc}
-use borrow.Author.Rules.{rules}
 use Rattle.desk.specs.Sound.{sound_columns}
 use Rattle.desk.proofs.columns_sound.Goals as goal
 

@@ -1,5 +1,4 @@
 -- `freeing::cut_slot` meets its contract. Assumes nothing.
-use borrow.Author.Rules.{rules}
 use mathlib.Core.Path.{refl}
 use Rattle.freeing.proofs.Tallies.{cut_slot_tallied}
 use Rattle.freeing.proofs.cut_slot.Goals as goal

@@ -1,5 +1,4 @@
 -- `freeing::empty_slot` meets its contract. Assumes nothing.
-use borrow.Author.Rules.{rules}
 use Rattle.freeing.proofs.Freeings.{without_slot_stored}
 use Rattle.freeing.proofs.empty_slot.Goals as goal
 

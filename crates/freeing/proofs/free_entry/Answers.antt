@@ -1,5 +1,4 @@
 -- `freeing::free_entry` meets its contract. Assumes nothing.
-use borrow.Author.Rules.{rules}
 use Rattle.freeing.proofs.Freeings.{without_entry_stored}
 use Rattle.freeing.proofs.free_entry.Goals as goal
 

@@ -1,5 +1,4 @@
 -- `freeing::sweep_slot` meets its contract. Assumes nothing.
-use borrow.Author.Rules.{rules}
 use mathlib.Core.Path.{refl}
 use Rattle.freeing.proofs.Tallies.{swept_slot_tallied}
 use Rattle.freeing.proofs.sweep_slot.Goals as goal

@@ -1,8 +1,5 @@
 -- `freeing::tally` meets its contract. The loop's invariant: the first p pages are tallied. Assumes nothing.
-use borrow.Author.Rules.{rules}
 use mathlib.Core.Path.{◌≡◌, refl, ap, ◌∙◌}
-use mathlib.Core.Logic.{⊎_elim}
-use Prim.Native.Nat.{◌-◌, ◌≤◌}
 use native.Mathlib.Omega.{arith}
 use lib.ListN.{length}
 use Rattle.freeing.specs.Tally.{tallied_to}

@@ -1,5 +1,4 @@
 -- `page::kind::lengths_ok` meets its contract. Assumes nothing.
-use borrow.Author.Rules.{rules}
 use Rattle.kind.specs.Kind.{lengths_ok}
 use Rattle.kind.proofs.lengths_ok.Goals as goal
 

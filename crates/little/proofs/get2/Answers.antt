@@ -1,7 +1,6 @@
 use native.Mathlib.Omega.{arith}
 use Prim.Native.Nat.{◌+◌}
 use Rattle.little.proofs.Parts.{little_part_add, little_byte}
-use borrow.Author.Rules.{rules}
 use Rattle.little.proofs.get2.Goals as goal
 
 pub returns : goal.returns

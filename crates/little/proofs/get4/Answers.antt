@@ -1,6 +1,5 @@
 use native.Mathlib.Omega.{arith}
 use Rattle.little.proofs.Parts.{little_part_add}
-use borrow.Author.Rules.{rules}
 use Rattle.little.proofs.get4.Goals as goal
 
 pub returns : goal.returns

@@ -1,7 +1,6 @@
 -- `little::put1` meets its contract: a byte is its own one digit. Assumes nothing.
 use mathlib.Core.Path.{◌≡◌}
 use Prim.Native.Nat.{◌%◌}
-use borrow.Author.Rules.{rules}
 use native.Mathlib.Omega.{arith}
 use Rattle.little.specs.Little.{digits}
 use Rattle.little.proofs.put1.Goals as goal

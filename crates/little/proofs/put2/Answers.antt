@@ -2,7 +2,6 @@ use native.Mathlib.Omega.{arith}
 use native.Mathlib.Numerals.{add-one}
 use lib.ListN.{length-set}
 use Rattle.little.specs.Little.{digits}
-use borrow.Author.Rules.{rules}
 use Rattle.little.proofs.put2.Goals as goal
 
 pub bounds-s-at-2 : goal.bounds-s-at-2

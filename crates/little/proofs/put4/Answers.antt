@@ -1,5 +1,4 @@
 use Rattle.little.proofs.Parts.{sets_digits_add}
-use borrow.Author.Rules.{rules}
 use Rattle.little.proofs.put4.Goals as goal
 
 pub returns : goal.returns

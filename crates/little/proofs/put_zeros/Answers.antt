@@ -1,11 +1,9 @@
 -- `little::put_zeros` meets its contract. The invariant: i zeros are stored. Assumes nothing.
-use borrow.Author.Rules.{rules}
 use mathlib.Core.Path.{◌≡◌, refl, ap, ◌∙◌}
 use mathlib.Core.List.{List}
-use Prim.Native.Nat.{ℕ, ◌≤◌, ◌+◌, ◌-◌}
+use Prim.Native.Nat.{ℕ, ◌+◌}
 use native.Mathlib.Omega.{arith}
-use lib.ListN.{length, set, replicate, length-set}
-use lib.Seq.{sets}
+use lib.ListN.{set, length-set}
 use Rattle.little.proofs.Parts.{sets_zero}
 use Rattle.little.proofs.put_zeros.Goals as goal
 

@@ -1,11 +1,9 @@
 -- `places::ascends` meets its contract. The loop's invariant: the places passed are placed, and `low` is what a number here has to
 -- exceed. Assumes nothing.
 use mathlib.Core.Path.{◌≡◌, refl, sym, ◌∙◌}
-use Prim.Native.Nat.{◌≤◌, ◌-◌}
 use native.Mathlib.Omega.{arith}
-use Rattle.places.proofs.Places.{Run, run_start, run_number, run_fails}
+use Rattle.places.proofs.Places.{run_start, run_number, run_fails}
 use Rattle.places.proofs.Runs.{behind}
-use borrow.Author.Rules.{rules}
 use Rattle.places.proofs.ascends.Goals as goal
 
 pub loop-i-init : goal.loop-i-init

@@ -1,6 +1,5 @@
 -- `places::eight` meets its contract. Assumes nothing.
 use Rattle.places.proofs.Runs.{eight_or}
-use borrow.Author.Rules.{rules}
 use Rattle.places.proofs.eight.Goals as goal
 
 pub returns : goal.returns

@@ -1,11 +1,7 @@
 -- `places::few_unused` meets its contract. The loop's invariant: no bit so far, where the places passed are unused. Assumes nothing.
 use mathlib.Core.Path.{◌≡◌}
-use Prim.Native.Nat.{◌-◌, ◌≤◌}
 use native.Mathlib.Omega.{arith}
-use lib.Dec.{eqb}
-use Rattle.places.specs.Places.{ascending}
 use Rattle.places.proofs.Runs.{unused_start, one_more}
-use borrow.Author.Rules.{rules}
 use Rattle.places.proofs.few_unused.Goals as goal
 
 pub loop-i-init : goal.loop-i-init

@@ -1,16 +1,12 @@
 -- `places::find` meets its contract. The loop's invariant: the search from here on equals the search from the start. Assumes
 -- nothing.
-use mathlib.Core.Path.{◌≡◌, refl, sym, ◌∙◌}
+use mathlib.Core.Path.{◌≡◌}
 use Prim.Native.Nat.{ℕ, ◌≤◌, ◌-◌}
-use native.Mathlib.Omega.{arith}
 use lib.ListN.{get_or}
 use lib.Dec.{eqb}
-use borrow.Author.Tests.{eq-eqb, ne_eqb}
 use Rattle.ground.specs.Range.{first_from}
-use Rattle.ground.proofs.Ranges.{first_here, first_next, first_end}
 use Rattle.columns.specs.Limits.{sessions}
 use Rattle.places.specs.Open.{place_in}
-use borrow.Author.Rules.{rules}
 use Rattle.places.proofs.find.Given as goal
 
 abbrev pub invariant-loop-k : goal.invariant-loop-k

@@ -1,17 +1,11 @@
 -- `places::open_count` meets its contract. The loop's invariant: `n` is the count of the places passed. Assumes nothing.
-use mathlib.Core.Path.{◌≡◌, refl, sym, ap, ◌∙◌}
+use mathlib.Core.Path.{◌≡◌}
 use mathlib.Core.Bool.{Bool, not}
 use mathlib.Core.List.{List}
-use mathlib.Core.Logic.{⊎_elim}
-use Prim.Native.Nat.{ℕ, ◌≤◌, ◌-◌, ◌+◌}
-use native.Mathlib.Omega.{arith}
+use Prim.Native.Nat.{ℕ, ◌≤◌, ◌-◌}
 use lib.ListN.{get_or}
 use lib.Dec.{eqb}
-use borrow.Author.Rules.{rules}
-use borrow.Author.Tests.{eq-eqb, ne_eqb}
 use Rattle.ground.specs.Range.{count_below}
-use Rattle.ground.proofs.Ranges.{count_more, count_same, count_le}
-use Rattle.places.specs.Open.{open_count}
 use Rattle.places.proofs.open_count.Given as goal
 
 abbrev pub used : List ℕ → ℕ → Bool

@@ -2,17 +2,15 @@
 -- nothing.
 use mathlib.Core.Path.{◌≡◌, refl, sym, ap₂, ◌∙◌}
 use mathlib.Core.Bool.{true, false, ◌&&◌}
-use Prim.Native.Nat.{◌*◌, ◌-◌, ◌≤◌}
+use Prim.Native.Nat.{◌*◌}
 use native.Mathlib.Omega.{arith}
 use lib.ListN.{get_or}
 use lib.Dec.{leb}
-use borrow.Author.Tests.{not-true, not-false}
 use Rattle.ground.specs.Range.{all_below}
 use Rattle.ground.proofs.Ranges.{all_more, all_fails}
 use Rattle.columns.specs.Limits.{sessions, members, last_statement, spoiled_mark}
-use Rattle.places.specs.Places.{ascending, session_sound}
+use Rattle.places.specs.Places.{ascending}
 use Rattle.places.proofs.Sounds.{session_open, sessions_rest}
-use borrow.Author.Rules.{rules}
 use Rattle.places.proofs.sessions_sound.Goals as goal
 use Rattle.places.proofs.sessions_sound.Goals.{Else-not-fits-ascends, Then-not-fits-ascends}
 

@@ -1,18 +1,11 @@
 -- `places::sessions_sound` meets its contract. The loop's invariant: the numbers ascend, and the places passed are sound. Assumes
 -- nothing.
-use mathlib.Core.Path.{◌≡◌, refl, sym, ap₂, ◌∙◌}
-use mathlib.Core.Bool.{true, false, ◌&&◌}
-use Prim.Native.Nat.{◌*◌, ◌-◌, ◌≤◌}
-use native.Mathlib.Omega.{arith}
-use lib.ListN.{get_or}
-use lib.Dec.{leb}
-use borrow.Author.Tests.{not-true, not-false}
+use mathlib.Core.Path.{◌≡◌}
+use mathlib.Core.Bool.{true}
+use Prim.Native.Nat.{◌-◌, ◌≤◌}
 use Rattle.ground.specs.Range.{all_below}
-use Rattle.ground.proofs.Ranges.{all_more, all_fails}
-use Rattle.columns.specs.Limits.{sessions, members, last_statement, spoiled_mark}
+use Rattle.columns.specs.Limits.{sessions}
 use Rattle.places.specs.Places.{ascending, session_sound}
-use Rattle.places.proofs.Sounds.{session_open, sessions_rest}
-use borrow.Author.Rules.{rules}
 use Rattle.places.proofs.sessions_sound.Given as goal
 
 abbrev pub invariant-loop-k : goal.invariant-loop-k

@@ -1,10 +1,6 @@
 -- `places::unused` meets its contract. The loop's invariant: no bit so far, where the places passed are unused. Assumes nothing.
-use mathlib.Core.Path.{◌≡◌}
-use Prim.Native.Nat.{◌-◌, ◌≤◌}
 use native.Mathlib.Omega.{arith}
-use Rattle.places.specs.Places.{ascending}
-use Rattle.places.proofs.Runs.{none, unused_start, eight_more, eight_last}
-use borrow.Author.Rules.{rules}
+use Rattle.places.proofs.Runs.{unused_start, eight_more, eight_last}
 use Rattle.places.proofs.unused.Goals as goal
 
 pub returns-then-end-at-lt8 : goal.returns-then-end-at-lt8

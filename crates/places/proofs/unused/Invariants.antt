@@ -1,10 +1,8 @@
 -- `places::unused` meets its contract. The loop's invariant: no bit so far, where the places passed are unused. Assumes nothing.
 use mathlib.Core.Path.{◌≡◌}
 use Prim.Native.Nat.{◌-◌, ◌≤◌}
-use native.Mathlib.Omega.{arith}
 use Rattle.places.specs.Places.{ascending}
-use Rattle.places.proofs.Runs.{none, unused_start, eight_more, eight_last}
-use borrow.Author.Rules.{rules}
+use Rattle.places.proofs.Runs.{none}
 use Rattle.places.proofs.unused.Given as goal
 
 abbrev pub invariant-loop-i : goal.invariant-loop-i

@@ -1,5 +1,4 @@
 -- `pointer::at_entry` meets its contract. Assumes nothing.
-use borrow.Author.Rules.{rules}
 use mathlib.Core.Path.{sym}
 use native.Mathlib.Omega.{arith}
 use Rattle.pointer.proofs.PointerLaws.{at_entry_header, at_entry_behind}

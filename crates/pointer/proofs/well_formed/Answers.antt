@@ -1,5 +1,4 @@
 -- `page::pointer::well_formed` meets its contract: the code is the definition. Assumes nothing.
-use borrow.Author.Rules.{rules}
 use mathlib.Core.Path.{refl}
 use Rattle.pointer.specs.Pointer.{well_formed}
 use Rattle.pointer.proofs.well_formed.Goals as goal

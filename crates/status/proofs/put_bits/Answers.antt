@@ -1,9 +1,8 @@
 -- `page::status::put_bits` meets its contract: the sum is a byte. Assumes nothing.
-use borrow.Author.Rules.{rules}
 use native.Mathlib.Nat.{div-le_self}
 use native.Mathlib.Omega.{arith}
 use Rattle.status.specs.Status.{put_bits_in}
-use Rattle.status.proofs.StatusLaws.{unit_pos, put_bits_in_byte}
+use Rattle.status.proofs.StatusLaws.{put_bits_in_byte}
 use Rattle.status.proofs.put_bits.Goals as goal
 
 -- LOST nonzero-rem-result

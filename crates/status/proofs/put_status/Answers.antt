@@ -1,5 +1,4 @@
 -- `page::status::put_status` meets its contract. Assumes nothing.
-use borrow.Author.Rules.{rules}
 use native.Mathlib.Omega.{arith}
 use Rattle.status.proofs.StatusLaws.{put_status_page}
 use Rattle.status.proofs.put_status.Goals as goal

@@ -1,5 +1,4 @@
 -- `page::status::status_at` meets its contract. Assumes nothing.
-use borrow.Author.Rules.{rules}
 use native.Mathlib.Omega.{arith}
 use Rattle.status.proofs.StatusLaws.{status_at_page}
 use Rattle.status.proofs.status_at.Goals as goal

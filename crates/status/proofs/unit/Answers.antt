@@ -1,5 +1,4 @@
 -- `page::status::unit` meets its contract: the bit is one of its byte. Assumes nothing.
-use borrow.Author.Rules.{rules}
 use Prim.Native.Nat.{◌*◌, ◌%◌, ◌^◌, ◌<◌}
 use native.Mathlib.Omega.{arith}
 use Rattle.status.proofs.StatusLaws.{unit_byte}

@@ -1,5 +1,4 @@
 -- `touching::write_entry` meets its contract. Assumes nothing.
-use borrow.Author.Rules.{rules}
 use Rattle.touching.proofs.Touchings.{with_entry_stored}
 use Rattle.touching.proofs.write_entry.Goals as goal
 

@@ -1,5 +1,4 @@
 -- `touching::write_meta` meets its contract. Assumes nothing.
-use borrow.Author.Rules.{rules}
 use Rattle.touching.proofs.Touchings.{with_meta_stored}
 use Rattle.touching.proofs.write_meta.Goals as goal
 

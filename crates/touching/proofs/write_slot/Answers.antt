@@ -1,5 +1,4 @@
 -- `touching::write_slot` meets its contract. Assumes nothing.
-use borrow.Author.Rules.{rules}
 use Rattle.touching.proofs.Touchings.{with_slot_stored}
 use Rattle.touching.proofs.write_slot.Goals as goal
 

@@ -1,6 +1,5 @@
 -- `vacant::lowest_empty` meets its contract. Assumes nothing.
 use mathlib.Core.Path.{◌∙◌}
-use borrow.Author.Rules.{rules}
 use Rattle.vacant.proofs.Vacants.{lowest_data}
 use Rattle.vacant.proofs.lowest_empty.Goals as goal
 

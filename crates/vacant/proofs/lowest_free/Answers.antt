@@ -1,6 +1,5 @@
 -- `vacant::lowest_free` meets its contract. Assumes nothing.
 use mathlib.Core.Path.{◌∙◌}
-use borrow.Author.Rules.{rules}
 use Rattle.vacant.proofs.Vacants.{lowest_undo}
 use Rattle.vacant.proofs.lowest_free.Goals as goal
 

@@ -1,12 +1,8 @@
 -- `vacant::lowest_in` meets its contract. The invariant: the search from record i on is that of the whole page. Assumes nothing.
-use mathlib.Core.Path.{◌≡◌, sym, ◌∙◌}
-use Prim.Native.Nat.{◌≤◌, ◌+◌, ◌-◌, ◌*◌}
-use native.Mathlib.Omega.{arith}
-use borrow.Author.Rules.{rules}
+use mathlib.Core.Path.{◌≡◌}
+use Prim.Native.Nat.{◌≤◌, ◌-◌}
 use Rattle.ground.specs.Range.{first_from}
-use Rattle.ground.proofs.Ranges.{first_here, first_next, first_end}
-use Rattle.vacant.specs.Vacant.{lowest_in}
-use Rattle.vacant.proofs.Vacants.{first_start, idle, idle_read, busy_read}
+use Rattle.vacant.proofs.Vacants.{idle}
 use Rattle.vacant.proofs.lowest_in.Given as goal
 
 abbrev pub invariant-loop-i : goal.invariant-loop-i

@@ -1,7 +1,6 @@
 -- `whole::blank_page` meets its contract: its stores make a blank page. Assumes nothing.
 use Rattle.whole.proofs.Wholes.{blank_stores}
 use Prim.Native.Nat.{◌+◌, ◌*◌}
-use borrow.Author.Rules.{rules}
 use Rattle.whole.proofs.blank_page.Goals as goal
 
 pub returns : goal.returns

@@ -4,7 +4,6 @@ use lib.ListN.{length}
 use Rattle.whole.specs.Whole.{checksum_of}
 use Rattle.whole.proofs.Wholes.{checksum_of_more}
 use Rattle.whole.proofs.Abreast.{page_at_whole}
-use borrow.Author.Rules.{rules}
 use Rattle.whole.proofs.checksum.Goals as goal
 
 pub returns : goal.returns

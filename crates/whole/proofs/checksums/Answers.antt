@@ -1,6 +1,5 @@
 -- `whole::checksums` meets its contract: each of the four as one is. Assumes nothing.
 use Rattle.whole.proofs.Abreast.{checksums_more}
-use borrow.Author.Rules.{rules}
 use Rattle.whole.proofs.checksums.Goals as goal
 
 pub returns : goal.returns

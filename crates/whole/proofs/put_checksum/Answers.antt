@@ -1,6 +1,5 @@
 -- `whole::put_checksum` meets its contract. Assumes nothing.
 use Rattle.page.specs.Header.{put_field}
-use borrow.Author.Rules.{rules}
 use Rattle.whole.proofs.put_checksum.Goals as goal
 
 pub returns : goal.returns

@@ -2,7 +2,6 @@
 use Prim.Native.Nat.{◌+◌, ◌*◌}
 use native.Mathlib.Omega.{arith}
 use Rattle.whole.proofs.Abreast.{part_lent}
-use borrow.Author.Rules.{rules}
 use Rattle.whole.proofs.rest.Goals as goal
 
 pub returns : goal.returns

@@ -1,7 +1,6 @@
 -- `whole::right_with` meets its contract: it makes the tests of the header. Assumes nothing.
 use native.Mathlib.Omega.{arith}
 use Rattle.whole.proofs.Wholes.{page_right_read}
-use borrow.Author.Rules.{rules}
 use Rattle.whole.proofs.right_with.Goals as goal
 
 pub get1-requires-3 : goal.get1-requires-3

@@ -1,6 +1,5 @@
 -- `whole::seal_four` meets its contract: each of the four as one is. Assumes nothing.
 use Rattle.whole.proofs.Abreast.{sealed_four_puts}
-use borrow.Author.Rules.{rules}
 use Rattle.whole.proofs.seal_four.Goals as goal
 
 pub returns : goal.returns

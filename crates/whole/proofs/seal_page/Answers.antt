@@ -3,7 +3,6 @@ use mathlib.Core.Path.{refl, ap, ◌∙◌}
 use Rattle.page.proofs.Headers.{page_at_lent}
 use Rattle.whole.specs.Whole.{checksum_of}
 use Rattle.whole.proofs.Wholes.{sealed_page_put}
-use borrow.Author.Rules.{rules}
 use Rattle.whole.proofs.seal_page.Goals as goal
 
 pub returns : goal.returns

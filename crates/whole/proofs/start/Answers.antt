@@ -2,7 +2,6 @@
 use mathlib.Core.Path.{refl}
 use Rattle.little.specs.Little.{digits}
 use Rattle.whole.proofs.Wholes.{start_more}
-use borrow.Author.Rules.{rules}
 use Rattle.whole.proofs.start.Goals as goal
 
 pub returns : goal.returns

@@ -6,7 +6,6 @@ use lib.Seq.{sets}
 use Rattle.columns.specs.Limits.{members}
 use Rattle.desk.specs.Desk.{first_statement}
 use Rattle.desk.specs.Turns.{begun}
-use borrow.Author.Rules.{rules}
 use Rattle.desk.proofs.Desk.begin.Goals as goal
 
 pub returns : goal.returns

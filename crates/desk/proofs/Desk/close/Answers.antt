@@ -1,6 +1,5 @@
 -- `Desk::close` meets its contract. Assumes nothing.
 use Rattle.desk.specs.Turns.{closed}
-use borrow.Author.Rules.{rules}
 use Rattle.desk.proofs.Desk.close.Goals as goal
 
 pub returns : goal.returns

@@ -1,7 +1,6 @@
 -- `Desk::next_statement` meets its contract. Assumes nothing.
 use mathlib.Core.Path.{refl}
 use Rattle.desk.specs.Turns.{moved}
-use borrow.Author.Rules.{rules}
 use Rattle.desk.proofs.Desk.next_statement.Goals as goal
 
 pub returns : goal.returns

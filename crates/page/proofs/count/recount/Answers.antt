@@ -1,6 +1,5 @@
 -- `page::count::recount` meets its contract. Assumes nothing.
 use Rattle.page.proofs.Counts.{counted_store}
-use borrow.Author.Rules.{rules}
 use Rattle.page.proofs.count.recount.Goals as goal
 
 pub returns : goal.returns

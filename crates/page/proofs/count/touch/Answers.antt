@@ -1,6 +1,5 @@
 -- `page::count::touch` meets its contract. Assumes nothing.
 use Rattle.page.specs.Count.{touched}
-use borrow.Author.Rules.{rules}
 use Rattle.page.proofs.count.touch.Goals as goal
 
 pub returns : goal.returns

@@ -1,5 +1,4 @@
 -- `page::header::put_txn_id` meets its contract. Assumes nothing.
-use borrow.Author.Rules.{rules}
 use Rattle.page.specs.Header.{put_field}
 use Rattle.page.proofs.header.put_txn_id.Goals as goal
 

@@ -1,5 +1,4 @@
 -- `pointer::Pointer::lead` meets its contract: the tests are those of the definition. Assumes nothing.
-use borrow.Author.Rules.{rules}
 use mathlib.Core.Path.{◌≡◌, sym}
 use mathlib.Core.Bool.{Bool, true, ◌&&◌, cond}
 use Prim.Native.Nat.{ℕ, ◌≤◌}

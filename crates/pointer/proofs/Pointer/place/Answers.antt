@@ -1,5 +1,4 @@
 -- `pointer::Pointer::place` meets its contract: the code is the definition. Assumes nothing.
-use borrow.Author.Rules.{rules}
 use mathlib.Core.Path.{ap₂}
 use Rattle.pointer.specs.Pointer.{place_named, place_led}
 use Rattle.pointer.proofs.Pointer.place.Goals as goal

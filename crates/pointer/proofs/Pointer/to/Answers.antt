@@ -1,5 +1,4 @@
 -- `page::pointer::Pointer::to` meets its contract: page and offset fit their bits. Assumes nothing.
-use borrow.Author.Rules.{rules}
 use native.Mathlib.Omega.{arith}
 use Rattle.pointer.specs.Pointer.{pointer_to}
 use Rattle.pointer.proofs.Pointer.to.Goals as goal

@@ -1,7 +1,6 @@
 -- `page::entry::clear_entry` meets its contract. Assumes nothing.
 use native.Mathlib.Omega.{arith}
 use Rattle.records.proofs.Entries.{entry_inside, clear_entry_stored}
-use borrow.Author.Rules.{rules}
 use Rattle.records.proofs.entry.clear_entry.Goals as goal
 
 pub put_zeros-requires : goal.put_zeros-requires

@@ -1,6 +1,5 @@
 -- `records::entry::get_entry` meets its contract. Assumes nothing.
 use Rattle.records.proofs.Entries.{entry_of_read}
-use borrow.Author.Rules.{rules}
 use Rattle.records.proofs.entry.get_entry.Goals as goal
 
 pub returns : goal.returns

@@ -1,6 +1,5 @@
 -- `page::entry::write_copy` meets its contract. Assumes nothing.
 use Rattle.records.proofs.Entries.{put_copy_stored}
-use borrow.Author.Rules.{rules}
 use Rattle.records.proofs.entry.write_copy.Goals as goal
 
 pub returns : goal.returns

@@ -1,7 +1,6 @@
 -- `page::entry::write_entry` meets its contract. Assumes nothing.
 use Rattle.records.proofs.Entries.{entry_inside, put_entry_stored}
 use native.Mathlib.Omega.{arith}
-use borrow.Author.Rules.{rules}
 use Rattle.records.proofs.entry.write_entry.Goals as goal
 
 pub put_bytes-requires : goal.put_bytes-requires

@@ -1,6 +1,5 @@
 -- `page::slot::clear_slot` meets its contract. Assumes nothing.
 use Rattle.records.proofs.Slots.{clear_slot_stored}
-use borrow.Author.Rules.{rules}
 use Rattle.records.proofs.slot.clear_slot.Goals as goal
 
 pub returns : goal.returns

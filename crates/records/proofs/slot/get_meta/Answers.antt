@@ -1,6 +1,5 @@
 -- `page::slot::get_meta` meets its contract. Assumes nothing.
 use Rattle.records.proofs.Slots.{slot_of_read}
-use borrow.Author.Rules.{rules}
 use Rattle.records.proofs.slot.get_meta.Goals as goal
 
 pub returns : goal.returns

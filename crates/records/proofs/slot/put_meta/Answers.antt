@@ -1,6 +1,5 @@
 -- `page::slot::put_meta` meets its contract. Assumes nothing.
 use Rattle.records.proofs.Slots.{slot_fields_stores}
-use borrow.Author.Rules.{rules}
 use Rattle.records.proofs.slot.put_meta.Goals as goal
 
 pub returns : goal.returns

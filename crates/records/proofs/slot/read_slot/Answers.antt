@@ -1,6 +1,5 @@
 -- `page::slot::read_slot` meets its contract. Assumes nothing.
 use Rattle.records.proofs.Slots.{slot_at_read}
-use borrow.Author.Rules.{rules}
 use Rattle.records.proofs.slot.read_slot.Goals as goal
 
 pub returns : goal.returns

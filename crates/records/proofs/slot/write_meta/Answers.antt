@@ -1,6 +1,5 @@
 -- `page::slot::write_meta` meets its contract. Assumes nothing.
 use Rattle.records.proofs.Slots.{put_meta_stored}
-use borrow.Author.Rules.{rules}
 use Rattle.records.proofs.slot.write_meta.Goals as goal
 
 pub returns : goal.returns

@@ -1,6 +1,5 @@
 -- `page::slot::write_slot` meets its contract. Assumes nothing.
 use Rattle.records.proofs.Slots.{put_slot_stored}
-use borrow.Author.Rules.{rules}
 use Rattle.records.proofs.slot.write_slot.Goals as goal
 
 pub returns : goal.returns

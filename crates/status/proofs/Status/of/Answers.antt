@@ -1,5 +1,4 @@
 -- `page::status::Status::of` meets its contract: what is left of the match is 3 or more. Assumes nothing.
-use borrow.Author.Rules.{rules}
 use mathlib.Core.Path.{sym}
 use native.Mathlib.Omega.{arith}
 use Rattle.status.proofs.StatusLaws.{status_of_rest}
