@@ -1,5 +1,7 @@
 // What every session call asks first: lengths allowed, desk sound, session open ("01, When the desk says no", 1, 2 and 4), and those that
 // change something, that the session is not spoiled ("02, T-07", 18). The desk is lent as its words, and no copy of it is made.
+#![tactic(auto)]
+
 ghost use Rattle.std.specs.Prelude.{◌≡◌, length};
 ghost use Rattle.words.specs.Words.{all_words, desk_in};
 ghost use Rattle.admit.specs.Admit.{admit_of, unspoiled_of};

@@ -1,5 +1,7 @@
 // A row's versions, from the slot along the undo pointers ("01, Sessions and sight"), step by step, and where a version's body lies. What the
 // walk along them finds is said in specs/; its loop is `doubt`'s.
+#![tactic(auto)]
+
 ghost use Rattle.std.specs.Prelude.{◌≡◌};
 ghost use Rattle.chain.specs.Chain.{link_of};
 ghost use Rattle.chain.specs.Walk.{stamp_of, body_of, body_from};

@@ -1,5 +1,7 @@
 // What the slot says to a session that would write ("01, When the desk says no", 8 to 10). A version is known here by its stamp, as
 // it is to sight.
+#![tactic(auto)]
+
 ghost use Rattle.std.specs.Prelude.{◌≡◌, length};
 ghost use Rattle.answer.specs.Code.{code_of};
 ghost use Rattle.kind.specs.Kind.{page_size};

@@ -1,6 +1,8 @@
 // The walk along a row's versions to the one that a session reads ("01, Sessions and sight"), and whether a version looked at on the way
 // names a number of status 11, of which nobody can tell whether it was committed ("02, T-05"). The walk goes on over such a version as if it
 // weren't. It counts its steps and keeps no list of the entries passed; that this is the same is shown in chain/proofs.
+#![tactic(auto)]
+
 ghost use Rattle.std.specs.Prelude.{◌≡◌, ◌||◌, ◌<◌, length};
 ghost use Rattle.kind.specs.Kind.{page_size, rows};
 ghost use Rattle.sight.specs.Sight.{view_of};

@@ -1,7 +1,7 @@
 -- Calls that neither move nor end session S leave the plain table of S: its own writes of its present statement, what others do, and
 -- whoever begins. Assumes nothing.
 use Prim.Native.Nat.{ℕ, ◌<◌}
-use mathlib.Core.Path.{◌≡◌, refl, ◌∙◌}
+use mathlib.Core.Path.{◌≡◌, refl, ap, ◌∙◌}
 use mathlib.Core.Bool.{Bool, true, false, ◌&&◌, ◌||◌, cond}
 use mathlib.Core.List.{◌∷◌, [], ◌++◌}
 use mathlib.Core.Option.{Option, none, some}
@@ -9,6 +9,7 @@ use native.Mathlib.Omega.{arith}
 use lib.Dec.{eqb, ltb}
 use borrow.Author.Tests.{ne_eqb, le-ltb, not-true}
 use Rattle.machine.specs.Table.{Body, History, wrote, plain_table, committed_table, when_began, writes_before, statement_of, play, open_in}
+use Rattle.machine.proofs.Folds.{statement_else}
 use Rattle.machine.specs.Lines.{Call, Verdict, refused, done, told, heard, spares, format, opens, seal, read, begin, next, insert, update, delete, commit, withdraw, sweep}
 use Rattle.machine.specs.Machine.{Machine, find}
 use Rattle.machine.specs.Runs.{Reach}
@@ -38,7 +39,9 @@ module _ {m : Machine} {h : History} (x : Reach m h) (n : ℕ) (o : open_in h n 
   call_spares (format d u s) a m' e k r = true_false false k refl
   call_spares opens a m' e k r = refl
   call_spares seal a m' e k r = refl
-  call_spares begin a m' e k r = rw (ne_eqb n a (λ z. omega (arith, z, e.0, begins_other)))
+  call_spares begin a m' e k r =
+      let other : eqb n a ≡ false = ne_eqb n a (λ z. omega (arith, z, e.0, begins_other)) in
+      rw other (ap (λ (k : ℕ). play (committed_table (when_began h n)) (writes_before k h n) r) (statement_else h a n other))
   call_spares (next s) a m' e k r = rw (not-true (eqb n s) k)
   call_spares (insert s y) a m' e k r = wrote_later h n s a r (some y)
   call_spares (update s q y) a m' e k r = wrote_later h n s q r (some y)

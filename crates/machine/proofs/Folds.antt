@@ -143,10 +143,22 @@ all_same : (h h' : History) → ((x : ℕ) → writes_of h' x ≡ writes_of h x)
 all_same h h' s [] = refl
 all_same h h' s (x ∷ xs) = rw (s x, all_same h h' s xs)
 
+-- a session that begins writes nothing, and no other session's statement moves
+pub statement_else : (h : History) (n x : ℕ) → eqb x n ≡ false → statement_of (began n ∷ h) x ≡ statement_of h x
+statement_else h n x e = rw e
+
+began_else : (h : History) (n x : ℕ) → eqb x n ≡ false → writes_of (began n ∷ h) x ≡ writes_of h x
+began_else h n x e = rw e (ap (λ (k : ℕ). writes_before (suc k) h x) (statement_else h n x e))
+
+moved_else : (h : History) (n x : ℕ) → eqb x n ≡ false → writes_of (moved n ∷ h) x ≡ writes_of h x
+moved_else h n x e =
+    let stays : statement_of (moved n ∷ h) x ≡ statement_of h x = rw e in
+    ap (λ (k : ℕ). writes_before (suc k) h x) stays
+
 pub committed_table_is : (h : History) → Proper h → (r : ℕ) → committed_table h r ≡ table h r
 committed_table_is [] p r = refl
-committed_table_is (began n ∷ h) p r = rw (all_skip h (began n ∷ h) n (λ x e. rw e) (commits h) p.0) (committed_table_is h p.1 r)
-committed_table_is (moved n ∷ h) p r = rw (all_skip h (moved n ∷ h) n (λ x e. rw e) (commits h) p.0) (committed_table_is h p.1 r)
+committed_table_is (began n ∷ h) p r = rw (all_skip h (began n ∷ h) n (λ x e. began_else h n x e) (commits h) p.0) (committed_table_is h p.1 r)
+committed_table_is (moved n ∷ h) p r = rw (all_skip h (moved n ∷ h) n (λ x e. moved_else h n x e) (commits h) p.0) (committed_table_is h p.1 r)
 committed_table_is (wrote n q b ∷ h) p r = rw (all_skip h (wrote n q b ∷ h) n (λ x e. rw e) (commits h) p.0)
     (committed_table_is h p.1 r)
 committed_table_is (committed n ∷ h) p r =

@@ -17,7 +17,7 @@ use Rattle.machine.proofs.Invariant.{Inv}
 use Rattle.machine.proofs.Readings.{reach_both}
 
 -- what is reached from where one is, and then from there
-pub from_then : {m₀ m₁ m₂ : Machine} {h₀ h₁ h₂ : History} → From m₀ h₀ m₁ h₁ → From m₁ h₁ m₂ h₂ → From m₀ h₀ m₂ h₂
+pub from_then : {m₀ m₁ : Machine} {h₀ h₁ : History} {m₂ : Machine} {h₂ : History} → From m₀ h₀ m₁ h₁ → From m₁ h₁ m₂ h₂ → From m₀ h₀ m₂ h₂
 from_then x start = x
 from_then x (after y c e) = after (from_then x y) c e
 

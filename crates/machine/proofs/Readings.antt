@@ -11,7 +11,7 @@ use Rattle.machine.proofs.Invariant.{Inv, inv_empty, reading_of}
 use Rattle.machine.proofs.Sights.{inv_effect, Sight, sight_effect, sight_empty}
 
 -- accepted steps keep both
-pub from_both : {m₀ m : Machine} {h₀ h : History} → Inv m₀ h₀ × Sight m₀ h₀ → From m₀ h₀ m h → Inv m h × Sight m h
+pub from_both : {m₀ : Machine} {h₀ : History} {m : Machine} {h : History} → Inv m₀ h₀ × Sight m₀ h₀ → From m₀ h₀ m h → Inv m h × Sight m h
 from_both b start = b
 from_both b (after {m = m} {h = h} x c e) = let (i, g) = from_both b x in (inv_effect m h i c e, sight_effect m h i g c e)
 

@@ -169,11 +169,11 @@ next_effect m (commit k) = omega arith
 next_effect m (withdraw k) = omega arith
 next_effect m (sweep r) = omega arith
 
-next_from : {m₀ m : Machine} {h₀ h : History} → From m₀ h₀ m h → m₀.next ≤ m.next
+next_from : {m₀ : Machine} {h₀ : History} {m : Machine} {h : History} → From m₀ h₀ m h → m₀.next ≤ m.next
 next_from start = omega arith
 next_from (after {m = m} x c e) = omega (arith, next_from x, next_effect m c)
 
-pub under_from : {m₀ m : Machine} {h₀ h : History} → Inv m₀ h₀ → From m₀ h₀ m h → (n r : ℕ) (o : Option Deed) → n < m₀.next
+pub under_from : {m₀ : Machine} {h₀ : History} {m : Machine} {h : History} → Inv m₀ h₀ → From m₀ h₀ m h → (n r : ℕ) (o : Option Deed) → n < m₀.next
     → Under n o (deeds (m₀.rows r))
     → (s : Session) → Found n m.desk s → Inv m h × Under n o (deeds (m.rows r))
 under_from i start n r o l u s f = (i, u)

@@ -1,5 +1,7 @@
 // What read, update and delete ask of a row, once the session is admitted ("01, When the desk says no", 5 to 10, and "02, T-05", 17): the
 // row, the version that the session reads, doubt on the way to it, and for a write what the slot says.
+#![tactic(auto)]
+
 ghost use Rattle.std.specs.Prelude.{◌≡◌, length};
 ghost use Rattle.answer.specs.Code.{code_of};
 ghost use Rattle.kind.specs.Kind.{page_size};

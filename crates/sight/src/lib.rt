@@ -1,5 +1,7 @@
 // Who sees what ("01, Sessions and sight"): the status of any number, "S sees X", and "a version is there for S". A version is known
 // here by its stamp alone, so that whatever carries one is seen by the same rule.
+#![tactic(auto)]
+
 ghost use Rattle.std.specs.Prelude.{◌≡◌, length};
 ghost use Rattle.kind.specs.Kind.{page_size};
 ghost use Rattle.sight.specs.Sight.{view_of, standing, committed, listed, sees, known, there};

@@ -1,6 +1,8 @@
 // The desk as words of 32 bits, as a station's own program holds it. Where each column lies among them is said here, and nowhere above:
 // a call that leaves the desk as it is is lent the words, and asks of them what it needs; a Desk is made of them for the calls that
 // change it.
+#![tactic(auto)]
+
 ghost use Rattle.std.specs.Prelude.{◌≡◌, ◌+◌, ◌<◌, ◌≤◌, length, get_or, take, drop};
 ghost use Rattle.std.proofs.lemmas.List.Edits.{sets};
 ghost use Rattle.columns.specs.Limits.{sessions, members, places};

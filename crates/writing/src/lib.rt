@@ -1,5 +1,7 @@
 // What insert, update and delete write, once nothing refuses them ("01, Writes, withdrawal, sweep"): each is composed of writes that
 // touch, and writes no byte besides.
+#![tactic(auto)]
+
 ghost use Rattle.std.specs.Prelude.{◌≡◌, ◌<◌, ◌^◌, length};
 ghost use Rattle.kind.specs.Kind.{rows, entries};
 ghost use Rattle.writing.specs.Writing.{expired, inserted, updated_data, updated_undo, deleted};

@@ -1,8 +1,6 @@
 -- `admit::admit` meets its contract: a case of the rule for each way out. Assumes nothing.
 use mathlib.Core.Path.{◌≡◌, sym, ◌∙◌}
 use mathlib.Core.Bool.{true}
-use borrow.Author.Rules.{rules}
-use borrow.Author.Tests.{not-true, not-false}
 use Rattle.desk.specs.Sound.{sound}
 use Rattle.kind.specs.Kind.{lengths_ok}
 use Rattle.words.specs.Words.{desk_in}

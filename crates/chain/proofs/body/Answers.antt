@@ -1,7 +1,4 @@
 -- `chain::body` meets its contract: what is handed back and where it begins, by the cases of the place. Assumes nothing.
-use borrow.Author.Rules.{rules}
-use native.Mathlib.Omega.{arith}
-use Rattle.records.proofs.Entries.{entry_inside}
 use Rattle.chain.proofs.Bodies.{hand_slot, hand_copy, hand_none, hand_no_slot, hand_no_copy}
 use Rattle.chain.proofs.body.Goals as goal
 

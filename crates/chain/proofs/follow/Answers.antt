@@ -1,8 +1,6 @@
 -- `chain::follow` meets its contract: the entry that is read is the one to which the pointer leads, and its tests are those of the
 -- definition. Assumes nothing.
-use borrow.Author.Rules.{rules}
 use mathlib.Core.Path.{◌≡◌, sym, ap, ◌∙◌}
-use mathlib.Core.List.{List}
 use Prim.Native.Nat.{ℕ}
 use Rattle.kind.specs.Kind.{pages}
 use Rattle.pointer.specs.Pointer.{lead_of}

@@ -1,6 +1,5 @@
 -- `conflict::another` meets its contract. Assumes nothing.
 use mathlib.Core.Path.{sym}
-use borrow.Author.Rules.{rules}
 use Rattle.conflict.proofs.Conflicts.{another_committed, another_open}
 use Rattle.conflict.proofs.another.Goals as goal
 

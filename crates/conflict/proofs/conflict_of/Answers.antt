@@ -1,6 +1,5 @@
 -- `conflict::conflict_of` meets its contract, case by case. Assumes nothing.
 use mathlib.Core.Path.{sym, ◌∙◌}
-use borrow.Author.Rules.{rules}
 use Rattle.conflict.proofs.Conflicts.{conflict_own_expirer, conflict_expirer, conflict_earlier, conflict_own, conflict_seen, conflict_unseen}
 use Rattle.conflict.proofs.conflict_of.Goals as goal
 

@@ -1,5 +1,4 @@
 -- `doubt::ended` meets its contract: each arm knows which link it was given. Assumes nothing.
-use borrow.Author.Rules.{rules}
 use Rattle.doubt.proofs.ended.Goals as goal
 
 pub returns-then-met : goal.returns-then-met

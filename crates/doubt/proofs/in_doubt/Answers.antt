@@ -1,5 +1,4 @@
 -- `doubt::in_doubt` meets its contract. Assumes nothing.
-use borrow.Author.Rules.{rules}
 use Rattle.doubt.specs.Doubt.{in_doubt}
 use Rattle.doubt.proofs.in_doubt.Goals as goal
 

@@ -1,6 +1,5 @@
 -- `doubt::is_doubtful` meets its contract. Assumes nothing.
 use mathlib.Core.Path.{sym, ◌∙◌}
-use borrow.Author.Rules.{rules}
 use borrow.Author.Tests.{eq-eqb}
 use Rattle.doubt.proofs.Doubts.{doubtful_own, doubtful_other}
 use Rattle.doubt.proofs.is_doubtful.Goals as goal

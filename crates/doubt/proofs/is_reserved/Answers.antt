@@ -1,5 +1,4 @@
 -- `doubt::is_reserved` meets its contract. Assumes nothing.
-use borrow.Author.Rules.{rules}
 use Rattle.doubt.specs.Doubt.{reserved}
 use Rattle.doubt.proofs.is_reserved.Goals as goal
 

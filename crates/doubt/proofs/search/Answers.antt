@@ -1,5 +1,4 @@
 -- `doubt::search` meets its contract, by the cases of the walk at the slot. Assumes nothing.
-use borrow.Author.Rules.{rules}
 use Rattle.doubt.proofs.Looks.{look_empty, look_at, look_on}
 use Rattle.doubt.proofs.search.Goals as goal
 

@@ -1,6 +1,5 @@
 -- `seeking::may_write` meets its contract, by what the seek found. Assumes nothing.
 use mathlib.Core.Path.{sym, ◌∙◌}
-use borrow.Author.Rules.{rules}
 use Rattle.seeking.proofs.Seekings.{seek_inside, write_unsought, write_says}
 use Rattle.seeking.proofs.may_write.Goals as goal
 

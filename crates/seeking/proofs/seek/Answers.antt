@@ -1,7 +1,6 @@
 -- `seeking::seek` meets its contract, by what the walk found. Assumes nothing.
 use denote.Enum.Declared.{tag_of, declared}
 use mathlib.Core.Path.{refl, sym}
-use borrow.Author.Rules.{rules}
 use Rattle.doubt.specs.contracts.Look.{enum}
 use Rattle.seeking.proofs.Seekings.{seek_outside, seek_none, seek_at}
 use borrow.Enum.Refused.{opened}

@@ -1,5 +1,4 @@
 -- `sight::does_see` meets its contract. Assumes nothing.
-use borrow.Author.Rules.{rules}
 use mathlib.Core.Path.{sym, ◌∙◌}
 use borrow.Author.Tests.{le-ltb}
 use Rattle.sight.proofs.Sights.{sees_far, sees_open, sees_rest}

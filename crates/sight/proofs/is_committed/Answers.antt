@@ -1,5 +1,4 @@
 -- `sight::is_committed` meets its contract. Assumes nothing.
-use borrow.Author.Rules.{rules}
 use Rattle.sight.specs.Sight.{committed}
 use Rattle.sight.proofs.is_committed.Goals as goal
 

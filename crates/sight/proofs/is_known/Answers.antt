@@ -1,5 +1,4 @@
 -- `sight::is_known` meets its contract. Assumes nothing.
-use borrow.Author.Rules.{rules}
 use Rattle.sight.specs.Sight.{earlier, known}
 use Rattle.sight.proofs.is_known.Goals as goal
 

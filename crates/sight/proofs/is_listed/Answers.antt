@@ -1,14 +1,9 @@
 -- `sight::is_listed` meets its contract. The loop's invariant: the first place of x from here on is that of the whole list.
 -- Assumes nothing.
-use borrow.Author.Rules.{rules}
-use mathlib.Core.Path.{◌≡◌, sym, ◌∙◌}
-use Prim.Native.Nat.{ℕ, ◌≤◌, ◌-◌}
+use mathlib.Core.Path.{sym, ◌∙◌}
 use native.Mathlib.Nat.{sub-zero}
 use native.Mathlib.Omega.{arith}
-use lib.ListN.{get_or, length}
-use lib.Dec.{eqb}
 use borrow.Author.Tests.{ne_eqb, le-ltb}
-use Rattle.ground.specs.Range.{first_from}
 use Rattle.ground.proofs.Ranges.{first_next, first_end}
 use Rattle.sight.specs.Sight.{listed}
 use Rattle.sight.proofs.Sights.{listed_intro}

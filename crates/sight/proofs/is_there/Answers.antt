@@ -1,5 +1,4 @@
 -- `sight::is_there` meets its contract. Assumes nothing.
-use borrow.Author.Rules.{rules}
 use mathlib.Core.Path.{sym, ◌∙◌}
 use borrow.Author.Tests.{eq-eqb}
 use Rattle.sight.proofs.Sights.{there_unknown, there_unexpired, there_expired}

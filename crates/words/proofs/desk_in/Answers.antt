@@ -1,6 +1,5 @@
 -- `words::desk_in` meets its contract. Assumes nothing.
 use Rattle.words.proofs.Copies.{desk_said}
-use borrow.Author.Rules.{rules}
 use Rattle.words.proofs.desk_in.Goals as goal
 
 pub returns : goal.returns

@@ -1,6 +1,5 @@
 -- `words::find` meets its contract: the columns are parts of the words. Assumes nothing.
 use Rattle.words.specs.Words.{desk_in}
-use borrow.Author.Rules.{rules}
 use Rattle.words.proofs.find.Goals as goal
 
 pub returns : goal.returns

@@ -1,7 +1,6 @@
 -- `words::is_sound` meets its contract: the columns are parts of the words. Assumes nothing.
 use Rattle.desk.specs.Sound.{sound}
 use Rattle.words.specs.Words.{desk_in}
-use borrow.Author.Rules.{rules}
 use Rattle.words.proofs.is_sound.Goals as goal
 
 pub returns : goal.returns

@@ -1,6 +1,5 @@
 -- `words::is_spoiled` meets its contract: the columns are parts of the words. Assumes nothing.
 use Rattle.words.proofs.Laws.{spoiled_at_lem}
-use borrow.Author.Rules.{rules}
 use Rattle.words.proofs.is_spoiled.Goals as goal
 
 pub returns : goal.returns

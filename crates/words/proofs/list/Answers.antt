@@ -1,6 +1,5 @@
 -- `words::list` meets its contract: the used places of a list are a part of the words. Assumes nothing.
 use Rattle.words.proofs.Laws.{used_at}
-use borrow.Author.Rules.{rules}
 use Rattle.words.proofs.list.Goals as goal
 
 pub returns : goal.returns

@@ -1,13 +1,9 @@
 -- `words::lists_in` meets its contract. The loop's invariant: the first i places are copied. Assumes nothing.
-use mathlib.Core.Path.{◌≡◌, refl}
+use mathlib.Core.Path.{◌≡◌}
 use mathlib.Core.List.{◌++◌}
 use Prim.Native.Nat.{◌≤◌, ◌-◌}
-use native.Mathlib.Omega.{arith}
-use lib.ListN.{take, drop, replicate}
+use lib.ListN.{take, drop}
 use Rattle.columns.specs.Limits.{places}
-use Rattle.columns.proofs.Columns.{part_next}
-use Rattle.words.proofs.Copies.{copied}
-use borrow.Author.Rules.{rules}
 use Rattle.words.proofs.lists_in.Given as goal
 
 abbrev pub invariant-loop-i : goal.invariant-loop-i

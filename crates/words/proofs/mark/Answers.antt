@@ -1,7 +1,6 @@
 -- `words::mark` meets its contract: the columns are parts of the words. Assumes nothing.
 use Rattle.desk.specs.Turns.{mark}
 use Rattle.words.specs.Words.{desk_in}
-use borrow.Author.Rules.{rules}
 use Rattle.words.proofs.mark.Goals as goal
 
 pub returns : goal.returns

@@ -1,6 +1,5 @@
 -- `words::open_count` meets its contract: the columns are parts of the words. Assumes nothing.
 use Rattle.words.specs.Words.{desk_in}
-use borrow.Author.Rules.{rules}
 use Rattle.words.proofs.open_count.Goals as goal
 
 pub returns : goal.returns

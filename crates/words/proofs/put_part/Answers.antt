@@ -1,12 +1,10 @@
 -- `words::put_part` meets its contract. The loop's invariant: the first i places are copied. Assumes nothing.
-use mathlib.Core.Path.{◌≡◌, refl}
-use Prim.Native.Nat.{◌≤◌, ◌-◌}
+use mathlib.Core.Path.{refl}
 use native.Mathlib.Omega.{arith}
 use lib.ListN.{length, length-set}
-use lib.Seq.{paste, paste-zero}
+use lib.Seq.{paste-zero}
 use Rattle.columns.proofs.Columns.{paste_next}
 use Rattle.words.proofs.Copies.{pasted}
-use borrow.Author.Rules.{rules}
 use Rattle.words.proofs.put_part.Goals as goal
 
 pub loop-i-init : goal.loop-i-init

@@ -1,12 +1,8 @@
 -- `words::put_part` meets its contract. The loop's invariant: the first i places are copied. Assumes nothing.
-use mathlib.Core.Path.{◌≡◌, refl}
+use mathlib.Core.Path.{◌≡◌}
 use Prim.Native.Nat.{◌≤◌, ◌-◌}
-use native.Mathlib.Omega.{arith}
-use lib.ListN.{length, length-set}
-use lib.Seq.{paste, paste-zero}
-use Rattle.columns.proofs.Columns.{paste_next}
-use Rattle.words.proofs.Copies.{pasted}
-use borrow.Author.Rules.{rules}
+use lib.ListN.{length}
+use lib.Seq.{paste}
 use Rattle.words.proofs.put_part.Given as goal
 
 abbrev pub invariant-loop-i : goal.invariant-loop-i

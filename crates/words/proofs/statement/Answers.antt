@@ -1,6 +1,5 @@
 -- `words::statement` meets its contract: the columns are parts of the words. Assumes nothing.
 use Rattle.words.proofs.Laws.{statement_at}
-use borrow.Author.Rules.{rules}
 use Rattle.words.proofs.statement.Goals as goal
 
 pub returns : goal.returns

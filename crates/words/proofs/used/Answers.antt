@@ -1,15 +1,9 @@
 -- `words::used` meets its contract. The loop's invariant: the search from here on equals the search from the start. Assumes nothing.
-use mathlib.Core.Path.{◌≡◌, refl, sym, ◌∙◌}
-use Prim.Native.Nat.{ℕ, ◌≤◌, ◌-◌}
+use mathlib.Core.Path.{refl, sym, ◌∙◌}
 use native.Mathlib.Omega.{arith}
-use lib.ListN.{get_or}
-use lib.Dec.{eqb}
 use borrow.Author.Tests.{eq-eqb, ne_eqb}
-use Rattle.ground.specs.Range.{first_from}
 use Rattle.ground.proofs.Ranges.{first_here, first_next, first_end}
-use Rattle.columns.specs.Limits.{members}
 use Rattle.columns.specs.Columns.{used_in}
-use borrow.Author.Rules.{rules}
 use Rattle.words.proofs.used.Goals as goal
 
 pub loop-n-init : goal.loop-n-init

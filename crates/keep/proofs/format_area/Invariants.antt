@@ -1,0 +1,14 @@
+-- `keep::format_area` meets its contract. The invariant: the first p pages are blank; then all are sealed. Assumes nothing.
+use mathlib.Core.Path.{◌≡◌, refl}
+use Prim.Native.Nat.{◌≤◌, ◌-◌}
+use native.Mathlib.Omega.{arith}
+use lib.ListN.{length}
+use borrow.Author.Rules.{rules}
+use Rattle.keep.proofs.Fresh.{Blank, blank_more, fresh_area_all}
+use Rattle.keep.proofs.format_area.Given as goal
+
+abbrev pub invariant-loop-p : goal.invariant-loop-p
+invariant-loop-p l = (l.p ≤ l.n) × (length l.s ≡ length l.initial.s) × Blank l.k l.p l.s
+
+abbrev pub decreases-loop-p : goal.decreases-loop-p
+decreases-loop-p l = l.n - l.p
