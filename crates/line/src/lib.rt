@@ -1,4 +1,6 @@
 // One line of a script as a call ("01, The script and one whole run"): "One call a line, fields parted by one tab".
+#![tactic(auto)]
+
 ghost use Rattle.std.specs.Prelude.{◌≡◌, ◌≤◌, length};
 ghost use Rattle.line.specs.Line.{same_as, verb_of, numbers_of, bodied, command_of, ill, take_number, take_body, left};
 

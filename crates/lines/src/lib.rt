@@ -1,5 +1,7 @@
 // A text parted by a byte, and the line reader ("01, The script and one whole run"): "fields parted by one tab, newline after each line"; "The line
 // reader keeps hold of the lent text and its place in it."
+#![tactic(auto)]
+
 ghost use Rattle.std.specs.Prelude.{◌≡◌, ◌+◌, ◌≤◌, length, drop};
 ghost use Rattle.lines.specs.Span.{before};
 ghost use Rattle.lines.specs.Lines.{line_at, read_from};

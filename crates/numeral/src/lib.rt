@@ -1,5 +1,7 @@
 // Numbers and bodies as text ("01, The script and one whole run"): "Numbers are decimal without leading zeros, a body is 64 lower-case hex
 // digits." Each direction is one definition on lists of bytes.
+#![tactic(auto)]
+
 ghost use Rattle.std.specs.Prelude.{◌≡◌, ◌+◌, ◌*◌, ◌≤◌, false, length, replicate};
 ghost use Rattle.std.proofs.lemmas.List.Edits.{sets};
 ghost use Rattle.numeral.specs.Numeral.{number_in, nibble_of, is_body, body_in, glyph_of, spelled, numeral_of, hex_of};

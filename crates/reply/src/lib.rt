@@ -1,5 +1,7 @@
 // An answer as a line ("01, The script and one whole run"): "Answers: the code, and where it is 0 the fields". Each writes its line at a
 // place of a lent buffer and answers where the line ends.
+#![tactic(auto)]
+
 ghost use Rattle.std.specs.Prelude.{◌≡◌, [], ◌∷◌, ◌+◌, ◌≤◌, length};
 ghost use Rattle.numeral.specs.Numeral.{numeral_of, hex_of};
 ghost use Rattle.reply.specs.Reply.{longest, Says, answer_line, newline, tabbed};

@@ -1,9 +1,7 @@
 -- `line::body_at` meets its contract. Assumes nothing.
-use Prim.Native.Nat.{◌≤◌, ◌<◌}
+use Prim.Native.Nat.{◌≤◌}
 use lib.ListN.{length}
 use native.Mathlib.Omega.{arith}
-use borrow.Author.Rules.{rules}
-use borrow.Author.Tests.{not-true, not-false}
 use Rattle.line.proofs.Fields.{end_inside, body_unwanted, body_missing, body_there}
 use Rattle.line.proofs.body_at.Goals as goal
 use Rattle.line.proofs.body_at.Goals.{After-find-end}

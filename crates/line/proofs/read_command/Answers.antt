@@ -4,7 +4,6 @@ use mathlib.Core.Bool.{Bool, true, false, cond, ◌&&◌}
 use Prim.Native.Nat.{◌≤◌}
 use lib.ListN.{length}
 use lib.Dec.{eqb}
-use borrow.Author.Rules.{rules}
 use Rattle.line.specs.Line.{command, ill, command_of, longest}
 use Rattle.line.proofs.Fields.{name_inside, command_long, command_named, called_read}
 use Rattle.line.proofs.read_command.Goals as goal

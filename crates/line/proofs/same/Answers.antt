@@ -1,9 +1,5 @@
 -- `line::same` meets its contract. The invariant: the texts from byte i on are the same where the whole texts are. Assumes nothing.
-use mathlib.Core.Path.{◌≡◌, refl, sym, ◌∙◌}
-use Prim.Native.Nat.{◌-◌}
-use lib.ListN.{length, drop}
-use borrow.Author.Rules.{rules}
-use Rattle.line.specs.Line.{same_as}
+use mathlib.Core.Path.{refl, sym, ◌∙◌}
 use Rattle.line.proofs.Names.{same_length, same_other, same_next, same_end}
 use Rattle.line.proofs.same.Goals as goal
 

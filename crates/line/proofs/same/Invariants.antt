@@ -1,10 +1,8 @@
 -- `line::same` meets its contract. The invariant: the texts from byte i on are the same where the whole texts are. Assumes nothing.
-use mathlib.Core.Path.{◌≡◌, refl, sym, ◌∙◌}
+use mathlib.Core.Path.{◌≡◌}
 use Prim.Native.Nat.{◌-◌}
 use lib.ListN.{length, drop}
-use borrow.Author.Rules.{rules}
 use Rattle.line.specs.Line.{same_as}
-use Rattle.line.proofs.Names.{same_length, same_other, same_next, same_end}
 use Rattle.line.proofs.same.Given as goal
 
 abbrev pub invariant-loop-i : goal.invariant-loop-i

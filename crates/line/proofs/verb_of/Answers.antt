@@ -2,7 +2,6 @@
 use mathlib.Core.Path.{◌≡◌, sym, ◌∙◌}
 use mathlib.Core.List.{List}
 use Prim.Native.Nat.{ℕ}
-use borrow.Author.Rules.{rules}
 use Rattle.line.specs.declared.Verb.TheVariants.{IllFormed}
 use Rattle.line.specs.Line.{word_of, verb_in, verb_of}
 use Rattle.line.proofs.Names.{verb_here, verb_next, Past, past_none}

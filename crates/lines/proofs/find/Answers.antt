@@ -1,11 +1,7 @@
 -- `lines::find` meets its contract. The loop's invariant: the search from here on ends where the search from the start does.
 -- Assumes nothing.
-use mathlib.Core.Path.{◌≡◌, refl}
-use Prim.Native.Nat.{◌+◌, ◌-◌}
+use mathlib.Core.Path.{refl}
 use native.Mathlib.Omega.{arith}
-use lib.ListN.{length, drop}
-use borrow.Author.Rules.{rules}
-use Rattle.lines.specs.Span.{before}
 use Rattle.lines.proofs.Spans.{before_here, before_next, before_end}
 use Rattle.lines.proofs.find.Goals as goal
 

@@ -1,12 +1,9 @@
 -- `lines::find` meets its contract. The loop's invariant: the search from here on ends where the search from the start does.
 -- Assumes nothing.
-use mathlib.Core.Path.{◌≡◌, refl}
+use mathlib.Core.Path.{◌≡◌}
 use Prim.Native.Nat.{◌+◌, ◌-◌}
-use native.Mathlib.Omega.{arith}
 use lib.ListN.{length, drop}
-use borrow.Author.Rules.{rules}
 use Rattle.lines.specs.Span.{before}
-use Rattle.lines.proofs.Spans.{before_here, before_next, before_end}
 use Rattle.lines.proofs.find.Given as goal
 
 abbrev pub invariant-loop-i : goal.invariant-loop-i

@@ -1,5 +1,4 @@
 -- `lines::line_at` meets its contract: the branch's test says whether the newline is there. Assumes nothing.
-use borrow.Author.Rules.{rules}
 use Rattle.lines.proofs.Ends.{line_ended, line_unended}
 use Rattle.lines.proofs.line_at.Goals as goal
 

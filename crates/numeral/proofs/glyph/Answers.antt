@@ -1,7 +1,6 @@
 -- `numeral::glyph` meets its contract. Assumes nothing.
 use mathlib.Core.Path.{sym}
 use native.Mathlib.Omega.{arith}
-use borrow.Author.Rules.{rules}
 use Rattle.numeral.proofs.Bodies.{glyph_of_low, glyph_of_high}
 use Rattle.numeral.proofs.glyph.Goals as goal
 

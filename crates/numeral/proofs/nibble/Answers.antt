@@ -1,5 +1,4 @@
 -- `numeral::nibble` meets its contract: it tests what the rule does. Assumes nothing.
-use borrow.Author.Rules.{rules}
 use Rattle.numeral.proofs.Tests.{within_low}
 use Rattle.numeral.proofs.Bodies.{nibble_digit, nibble_letter, nibble_none}
 use Rattle.numeral.proofs.nibble.Goals as goal

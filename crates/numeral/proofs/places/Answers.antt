@@ -1,7 +1,6 @@
 -- `numeral::places` meets its contract. The invariant is `Counting`; what is left of the number falls. Assumes nothing.
 use native.Mathlib.Omega.{arith}
-use borrow.Author.Rules.{rules}
-use Rattle.numeral.proofs.Numbers.{Counting, counting_start, counting_next, counting_end}
+use Rattle.numeral.proofs.Numbers.{counting_start, counting_next, counting_end}
 use Rattle.numeral.proofs.places.Goals as goal
 
 pub loop-rest-init : goal.loop-rest-init

@@ -1,12 +1,8 @@
 -- `numeral::put_body` meets its contract. The invariant: the digits of the bytes from i on are all that is yet to be stored. Assumes nothing.
-use mathlib.Core.Path.{◌≡◌, refl, sym, ◌∙◌}
-use Prim.Native.Nat.{◌+◌, ◌*◌, ◌-◌, ◌≤◌}
+use mathlib.Core.Path.{refl, sym, ◌∙◌}
 use native.Mathlib.Nat.{add-zero}
 use native.Mathlib.Omega.{arith}
-use lib.ListN.{length, drop, length-set}
-use lib.Seq.{sets}
-use borrow.Author.Rules.{rules}
-use Rattle.numeral.specs.Numeral.{hex_of}
+use lib.ListN.{length-set}
 use Rattle.numeral.proofs.Bodies.{sets_hex_of, sets_hex_of_end}
 use Rattle.numeral.proofs.put_body.Goals as goal
 

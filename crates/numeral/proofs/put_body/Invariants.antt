@@ -1,13 +1,9 @@
 -- `numeral::put_body` meets its contract. The invariant: the digits of the bytes from i on are all that is yet to be stored. Assumes nothing.
-use mathlib.Core.Path.{◌≡◌, refl, sym, ◌∙◌}
+use mathlib.Core.Path.{◌≡◌}
 use Prim.Native.Nat.{◌+◌, ◌*◌, ◌-◌, ◌≤◌}
-use native.Mathlib.Nat.{add-zero}
-use native.Mathlib.Omega.{arith}
-use lib.ListN.{length, drop, length-set}
+use lib.ListN.{length, drop}
 use lib.Seq.{sets}
-use borrow.Author.Rules.{rules}
 use Rattle.numeral.specs.Numeral.{hex_of}
-use Rattle.numeral.proofs.Bodies.{sets_hex_of, sets_hex_of_end}
 use Rattle.numeral.proofs.put_body.Given as goal
 
 abbrev pub invariant-loop-i : goal.invariant-loop-i

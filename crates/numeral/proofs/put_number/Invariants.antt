@@ -1,12 +1,10 @@
 -- `numeral::put_number` meets its contract. The invariant: the digits left, those of `rest`, are all that is yet to be stored. Assumes nothing.
-use mathlib.Core.Path.{◌≡◌, refl, sym, ap, ◌∙◌}
+use mathlib.Core.Path.{◌≡◌}
 use Prim.Native.Nat.{◌≤◌}
-use native.Mathlib.Omega.{arith}
-use lib.ListN.{length, length-set}
+use lib.ListN.{length}
 use lib.Seq.{sets}
-use borrow.Author.Rules.{rules}
 use Rattle.numeral.specs.Numeral.{numeral_of}
-use Rattle.numeral.proofs.Numbers.{lasts, lasts_numeral_of, sets_lasts, sets_lasts_end}
+use Rattle.numeral.proofs.Numbers.{lasts}
 use Rattle.numeral.proofs.put_number.Given as goal
 
 abbrev pub invariant-loop-left : goal.invariant-loop-left

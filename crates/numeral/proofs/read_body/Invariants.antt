@@ -1,8 +1,6 @@
 -- `numeral::read_body` meets its contract. The invariant is `Reading`. Assumes nothing.
-use Prim.Native.Nat.{◌-◌, ◌≤◌}
-use native.Mathlib.Omega.{arith}
-use borrow.Author.Rules.{rules}
-use Rattle.numeral.proofs.Bodies.{Reading, reading_start, reading_next, reading_none, reading_end, both_small, is_body_length, none_read}
+use Prim.Native.Nat.{◌-◌}
+use Rattle.numeral.proofs.Bodies.{Reading}
 use Rattle.numeral.proofs.read_body.Given as goal
 
 abbrev pub invariant-loop-i : goal.invariant-loop-i

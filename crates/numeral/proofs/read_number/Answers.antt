@@ -1,12 +1,10 @@
 -- `numeral::read_number` meets its contract. The invariant: the number from digit i on, behind digits that said v, is that of the whole
 -- field. Assumes nothing.
-use mathlib.Core.Path.{◌≡◌, sym, ◌∙◌}
-use Prim.Native.Nat.{ℕ, ◌≤◌, ◌<◌, ◌+◌, ◌*◌, ◌-◌, ◌^◌}
-use lib.ListN.{drop, get_or}
+use mathlib.Core.Path.{sym, ◌∙◌}
+use Prim.Native.Nat.{ℕ, ◌<◌, ◌+◌, ◌*◌, ◌-◌, ◌^◌}
+use lib.ListN.{get_or}
 use native.Mathlib.Omega.{arith}
-use borrow.Author.Rules.{rules}
-use Rattle.numeral.specs.Numeral.{number_in}
-use Rattle.numeral.proofs.Numbers.{number_from, number_in_empty, number_in_zero, number_in_other, read_other, read_large, read_digit, read_end, digit_low, digit_high, too_large, not_large}
+use Rattle.numeral.proofs.Numbers.{number_in_empty, number_in_zero, number_in_other, read_other, read_large, read_digit, read_end, digit_low, digit_high, too_large, not_large}
 use Rattle.numeral.proofs.read_number.Goals as goal
 use Rattle.numeral.proofs.read_number.Goals.{Else-v-d}
 

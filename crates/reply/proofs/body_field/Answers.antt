@@ -7,7 +7,6 @@ use lib.Seq.{length-sets}
 use Rattle.numeral.specs.Numeral.{hex_of}
 use Rattle.numeral.proofs.Laws.{hex_length}
 use Rattle.reply.proofs.Sayings.{says_append, says_byte, says_as, tabbed_one}
-use borrow.Author.Rules.{rules}
 use Rattle.reply.proofs.body_field.Goals as goal
 
 pub put_body-requires : goal.put_body-requires

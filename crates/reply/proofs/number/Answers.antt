@@ -7,7 +7,6 @@ use lib.Seq.{length-sets}
 use Rattle.numeral.specs.Numeral.{numeral_of}
 use Rattle.numeral.proofs.Laws.{numeral_length}
 use Rattle.reply.proofs.Sayings.{says_append, says_byte, says_as, tabbed_one}
-use borrow.Author.Rules.{rules}
 use Rattle.reply.proofs.number.Goals as goal
 
 pub put_number-requires : goal.put_number-requires

@@ -6,7 +6,6 @@ use lib.ListN.{length-set}
 use Rattle.numeral.specs.Numeral.{numeral_of}
 use Rattle.reply.specs.Reply.{longest}
 use Rattle.reply.proofs.Sayings.{number_within, says_append, says_byte, says_length, says_refused, says_fields}
-use borrow.Author.Rules.{rules}
 use Rattle.reply.proofs.numbered.Goals as goal
 
 pub returns-then-code-ne-DONE : goal.returns-then-code-ne-DONE

@@ -6,7 +6,6 @@ use Rattle.numeral.specs.Numeral.{numeral_of}
 use Rattle.numeral.proofs.Laws.{numeral_length}
 use Rattle.reply.specs.Reply.{longest}
 use Rattle.reply.proofs.Sayings.{says_append, says_as, answer_plain}
-use borrow.Author.Rules.{rules}
 use Rattle.reply.proofs.plain.Goals as goal
 
 pub put_number-requires : goal.put_number-requires

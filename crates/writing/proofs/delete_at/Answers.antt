@@ -1,5 +1,4 @@
 -- `writing::delete_at` meets its contract. Assumes nothing.
-use borrow.Author.Rules.{rules}
 use Rattle.writing.proofs.Writings.{deleted_written}
 use Rattle.writing.proofs.delete_at.Goals as goal
 

@@ -1,5 +1,4 @@
 -- `writing::insert_at` meets its contract. Assumes nothing.
-use borrow.Author.Rules.{rules}
 use Rattle.writing.specs.Writing.{inserted}
 use Rattle.writing.proofs.insert_at.Goals as goal
 

@@ -1,5 +1,4 @@
 -- `writing::update_at` meets its contract. Assumes nothing.
-use borrow.Author.Rules.{rules}
 use Rattle.writing.proofs.Writings.{updated_undo_written, updated_data_written}
 use Rattle.writing.proofs.update_at.Goals as goal
 
