@@ -1,0 +1,18 @@
+-- `playing::format` meets its contract: the call, its line, and the desk that stays. Assumes nothing.
+use Prim.Native.Nat.{ℕ}
+use mathlib.Core.Path.{refl, sym, ap, ◌∙◌}
+use Rattle.desk.specs.declared.Desk.{Desk}
+use Rattle.ground.proofs.Refusals.{kept_new, kept_old}
+use Rattle.playing.proofs.Playings.{plays}
+use borrow.Author.Rules.{rules}
+use Rattle.playing.proofs.format.Goals as goal
+
+pub returns-then-code-eq0 : goal.returns-then-code-eq0
+returns-then-code-eq0 c =
+    let done = c.format-o.ensures in
+    plays _ _ _ _ _ _ _ (c.code-code.ensures ∙ ap (λ (y : ℕ × Desk). y.0) done.answers) refl (ap (λ (y : ℕ × Desk). y.1) done.answers ∙ kept_new _ _ _ (sym (c.code-code.ensures ∙ ap (λ (y : ℕ × Desk). y.0) done.answers) ∙ c.if-code-eq0.true)) done.leaves c.plain-end.ensures
+
+pub returns-else-code-eq0 : goal.returns-else-code-eq0
+returns-else-code-eq0 c =
+    let done = c.format-o.ensures in
+    plays _ _ _ _ _ _ _ (c.code-code.ensures ∙ ap (λ (y : ℕ × Desk). y.0) done.answers) refl (kept_old _ _ _ (λ e. c.if-code-eq0.false ((c.code-code.ensures ∙ ap (λ (y : ℕ × Desk). y.0) done.answers) ∙ e))) done.leaves c.plain-end.ensures
