@@ -24,6 +24,7 @@ fn another(status: &[u8], x: u64) -> Answer
 }
 
 // "Once 7 is passed, look at the slot." Done where the session may write. The expirer is looked at before the creator.
+#[tactic(auto, using(crate::proofs::Conflicts::conflict_own_expirer, crate::proofs::Conflicts::conflict_expirer, crate::proofs::Conflicts::conflict_earlier, crate::proofs::Conflicts::conflict_own, crate::proofs::Conflicts::conflict_seen, crate::proofs::Conflicts::conflict_unseen))]
 pub fn conflict_of<'a>(
     number: u64,
     statement: u32,

@@ -11,7 +11,6 @@ use borrow.Author.Tests.{le-leb, not-false}
 use Rattle.ground.proofs.Refusals.{first_of_none}
 use Rattle.ground.proofs.Ranges.{all_at, and_true_right}
 use Rattle.desk.specs.Desk.{first_number, fresh_desk}
-use Rattle.desk.specs.Sound.{sound}
 use Rattle.desk.proofs.Sounds.{fresh_sound}
 use Rattle.kind.specs.Kind.{lengths_ok, pages, data_kind, undo_kind, status_kind}
 use Rattle.kind.specs.Areas.{Areas, areas, bad_length}

@@ -1,6 +1,8 @@
 // One call of a script, played on a store, and its answer written as a line ("01, The script and one whole run"). Nothing is decided
 // here: each call is handed to its own function, and what that answers is said. The script carries a Desk from line to line,
 // so a call's words are made of it once, and where the call changes them, the Desk of them again.
+#![tactic(auto)]
+
 ghost use Rattle.std.specs.Prelude.{◌≡◌, [], ◌+◌, ◌≤◌, length};
 ghost use Rattle.answer.specs.declared.Answer.TheVariants.{IllFormed};
 ghost use Rattle.answer.specs.Code.{code_of};

@@ -1,5 +1,7 @@
 // A script run on lent areas ("01, The script and one whole run"): text in, answers out. A text may come in pieces; what one piece
 // leaves, the next goes on from.
+#![tactic(auto)]
+
 ghost use Rattle.std.specs.Prelude.{◌≡◌, cond, ◌+◌, ◌-◌, ◌≤◌, length, take, drop};
 ghost use Rattle.kind.specs.Areas.{areas};
 ghost use Rattle.line.specs.Line.{command_of, ill};

@@ -1,1 +1,3 @@
+#![tactic(auto)]
+
 // No code: how the areas and the desk are seen as the machine.

@@ -1,5 +1,7 @@
 // Sweep ("01, Writes, withdrawal, sweep", "01, When the desk says no"): all rows that it treats are looked at before the first byte is
 // written.
+#![tactic(auto)]
+
 ghost use Rattle.std.specs.Prelude.{◌≡◌, true, ◌+◌, ◌≤◌, length};
 ghost use Rattle.ground.specs.Does.{Does};
 ghost use Rattle.answer.specs.Code.{code_of};

@@ -1,4 +1,6 @@
 // Withdraw ("01, Writes, withdrawal, sweep", "01, When the desk says no"): all rows are looked at before the first byte is written.
+#![tactic(auto)]
+
 ghost use Rattle.std.specs.Prelude.{◌≡◌, ◌<◌};
 ghost use Rattle.ground.specs.Does.{Does};
 ghost use Rattle.kind.specs.Kind.{rows};

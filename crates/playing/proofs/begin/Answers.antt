@@ -6,7 +6,6 @@ use Rattle.kind.specs.Areas.{areas}
 use Rattle.calls.specs.Calls.{begin_leaves}
 use Rattle.playing.specs.Playing.{number}
 use Rattle.playing.proofs.Playings.{plays, on_desk_lem}
-use borrow.Author.Rules.{rules}
 use Rattle.playing.proofs.begin.Goals as goal
 
 pub returns : goal.returns

@@ -4,7 +4,6 @@ use mathlib.Core.Path.{refl, sym, ap, ◌∙◌}
 use Rattle.desk.specs.declared.Desk.{Desk}
 use Rattle.ground.proofs.Refusals.{kept_new, kept_old}
 use Rattle.playing.proofs.Playings.{plays}
-use borrow.Author.Rules.{rules}
 use Rattle.playing.proofs.format.Goals as goal
 
 pub returns-then-code-eq0 : goal.returns-then-code-eq0

@@ -7,7 +7,6 @@ use Rattle.kind.specs.Areas.{areas}
 use Rattle.calls.specs.Calls.{insert_leaves}
 use Rattle.playing.specs.Playing.{number}
 use Rattle.playing.proofs.Playings.{plays, on_desk_lem}
-use borrow.Author.Rules.{rules}
 use Rattle.playing.proofs.insert.Goals as goal
 
 pub returns : goal.returns

@@ -5,7 +5,6 @@ use Rattle.desk.specs.declared.Desk.{Desk}
 use Rattle.kind.specs.Areas.{areas}
 use Rattle.calls.specs.Calls.{next_leaves}
 use Rattle.playing.proofs.Playings.{plays, on_desk_lem}
-use borrow.Author.Rules.{rules}
 use Rattle.playing.proofs.next.Goals as goal
 
 pub returns : goal.returns

@@ -1,7 +1,6 @@
 -- `playing::play` meets its contract: by the name, one call. Assumes nothing.
 use mathlib.Core.Path.{refl}
 use Rattle.playing.proofs.Playings.{plays, play_by}
-use borrow.Author.Rules.{rules}
 use Rattle.playing.proofs.play.Goals as goal
 
 pub returns-in-Format : goal.returns-in-Format

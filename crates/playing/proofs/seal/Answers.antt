@@ -3,7 +3,6 @@ use mathlib.Core.Path.{refl, sym, ◌∙◌}
 use Rattle.kind.specs.Areas.{areas}
 use Rattle.calls.specs.Calls.{seal_leaves}
 use Rattle.playing.proofs.Playings.{plays, on_desk_lem}
-use borrow.Author.Rules.{rules}
 use Rattle.playing.proofs.seal.Goals as goal
 
 pub returns : goal.returns

@@ -7,7 +7,6 @@ use Rattle.numeral.specs.Numeral.{numeral_of}
 use Rattle.kind.specs.Areas.{areas}
 use Rattle.calls.specs.Calls.{sweep_leaves}
 use Rattle.playing.proofs.Playings.{plays, on_desk_lem}
-use borrow.Author.Rules.{rules}
 use Rattle.playing.proofs.sweep.Goals as goal
 
 pub returns : goal.returns

@@ -1,7 +1,6 @@
 -- `script::begins` meets its contract: nothing is written yet. Assumes nothing.
 use mathlib.Core.Path.{ap}
 use mathlib.Core.Bool.{Bool}
-use borrow.Author.Rules.{rules}
 use Rattle.script.specs.Script.{begun}
 use Rattle.script.proofs.begins.Goals as goal
 

@@ -1,7 +1,6 @@
 -- `script::goes_on` meets its contract: by whether the line has ended. Assumes nothing.
 use native.Mathlib.Omega.{arith}
 use mathlib.Core.Path.{refl}
-use borrow.Author.Rules.{rules}
 use Rattle.lines.proofs.Ends.{line_order, ended_end}
 use Rattle.script.proofs.Goings.{goes_ended, goes_unended}
 use Rattle.script.proofs.goes_on.Goals as goal

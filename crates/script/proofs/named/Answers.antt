@@ -2,7 +2,6 @@
 use mathlib.Core.Path.{refl}
 use borrow.Author.Tests.{le-leb, lt-leb}
 use Rattle.script.specs.Script.{named}
-use borrow.Author.Rules.{rules}
 use Rattle.script.proofs.named.Goals as goal
 
 pub returns-then-pages-le-MOST : goal.returns-then-pages-le-MOST

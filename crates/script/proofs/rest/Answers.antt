@@ -2,7 +2,6 @@
 use native.Mathlib.Omega.{arith}
 use Rattle.line.specs.Line.{longest}
 use Rattle.script.proofs.Rests.{rest_none, rest_unended, rest_waits, rest_long}
-use borrow.Author.Rules.{rules}
 use Rattle.script.proofs.rest.Goals as goal
 
 pub returns-then-at-end : goal.returns-then-at-end

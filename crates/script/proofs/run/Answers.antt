@@ -1,14 +1,12 @@
 -- `script::run` meets its contract: what holds at the reader's place holds at the next one (`Goings.antt`). Assumes nothing.
 use native.Mathlib.Omega.{arith}
-use mathlib.Core.Path.{◌≡◌, sym, ap, subst, ◌∙◌}
+use mathlib.Core.Path.{◌≡◌, sym, ap, ◌∙◌}
 use Prim.Native.Nat.{ℕ}
 use mathlib.Core.List.{List}
-use Rattle.kind.specs.Areas.{areas}
 use Rattle.lines.specs.declared.Read.{Read}
 use Rattle.lines.specs.declared.Reader.{Reader}
 use Rattle.lines.specs.Lines.{line_at, read_from}
-use Rattle.script.specs.Script.{carried, Goes}
-use Rattle.script.proofs.Goings.{Holds, holds_start, holds_next, nearer}
+use Rattle.script.proofs.Goings.{holds_start, holds_next, nearer}
 use Rattle.script.proofs.run.Goals as goal
 
 -- the line read is the one at the reader's place, and the reader moved on stands behind it in the same text

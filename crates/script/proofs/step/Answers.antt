@@ -3,7 +3,6 @@ use Prim.Native.Nat.{ℕ}
 use mathlib.Core.Path.{ap, ◌∙◌}
 use Rattle.script.specs.Script.{lent, data_lent, undo_lent}
 use Rattle.script.proofs.Steps.{lent_inside, lent_long, chosen, chosen_2, steps}
-use borrow.Author.Rules.{rules}
 use Rattle.script.proofs.step.Goals as goal
 
 pub slice_bounds-play-end : goal.slice_bounds-play-end

@@ -8,7 +8,6 @@ use Rattle.ground.specs.Refuse.{kept}
 use Rattle.words.specs.Words.{desk_in, words_of}
 use Rattle.station.specs.Station.{format_call}
 use Rattle.station.proofs.Calls.{calls, kept_by}
-use borrow.Author.Rules.{rules}
 use Rattle.station.proofs.chirimok_format.Goals as goal
 
 pub returns : goal.returns

@@ -5,7 +5,6 @@ use mathlib.Core.List.{List, [], ◌∷◌}
 use Rattle.kind.specs.Areas.{areas}
 use Rattle.station.specs.Station.{insert_call}
 use Rattle.station.proofs.Calls.{calls}
-use borrow.Author.Rules.{rules}
 use Rattle.station.proofs.chirimok_insert.Goals as goal
 
 pub returns : goal.returns

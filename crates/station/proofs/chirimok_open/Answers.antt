@@ -9,7 +9,6 @@ use Rattle.ground.specs.Refuse.{kept}
 use Rattle.words.specs.Words.{desk_in, words_of}
 use Rattle.station.specs.Station.{open_call}
 use Rattle.station.proofs.Calls.{calls, reads, kept_by}
-use borrow.Author.Rules.{rules}
 use Rattle.station.proofs.chirimok_open.Goals as goal
 
 pub returns : goal.returns

@@ -6,7 +6,6 @@ use Rattle.kind.specs.Areas.{Areas, areas}
 use Rattle.chain.specs.declared.Place.{Place}
 use Rattle.station.specs.Station.{lies_of, read_call}
 use Rattle.station.proofs.Calls.{calls, reads}
-use borrow.Author.Rules.{rules}
 use Rattle.station.proofs.chirimok_read.Goals as goal
 
 pub returns : goal.returns

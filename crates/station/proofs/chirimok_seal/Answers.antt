@@ -5,7 +5,6 @@ use mathlib.Core.List.{[]}
 use Rattle.kind.specs.Areas.{Areas}
 use Rattle.station.specs.Station.{seal_call}
 use Rattle.station.proofs.Calls.{calls}
-use borrow.Author.Rules.{rules}
 use Rattle.station.proofs.chirimok_seal.Goals as goal
 
 pub returns : goal.returns

@@ -11,7 +11,6 @@ use Rattle.words.specs.Words.{words_of}
 use Rattle.rows.proofs.Promises.{update_desk}
 use Rattle.station.specs.Station.{update_call}
 use Rattle.station.proofs.Calls.{calls, marked_words}
-use borrow.Author.Rules.{rules}
 use Rattle.station.proofs.chirimok_update.Goals as goal
 
 pub returns : goal.returns

@@ -9,7 +9,6 @@ use Rattle.desk.specs.declared.Desk.{Desk}
 use Rattle.words.specs.Words.{words_of}
 use Rattle.station.specs.Station.{withdraw_call}
 use Rattle.station.proofs.Calls.{calls, kept_words}
-use borrow.Author.Rules.{rules}
 use Rattle.station.proofs.chirimok_withdraw.Goals as goal
 
 pub returns : goal.returns

@@ -1,6 +1,5 @@
 -- `station::lies` meets its contract, by the cases of the place. Assumes nothing.
 use Rattle.station.proofs.Calls.{lies_slot, lies_copy, lies_nowhere, lies_no_slot, lies_no_copy}
-use borrow.Author.Rules.{rules}
 use Rattle.station.proofs.lies.Goals as goal
 
 pub returns-then-r-rows : goal.returns-then-r-rows

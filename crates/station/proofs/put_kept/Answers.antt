@@ -2,7 +2,6 @@
 use mathlib.Core.Path.{◌≡◌, ◌∙◌}
 use native.Mathlib.Omega.{arith}
 use Rattle.ground.proofs.Refusals.{kept_new, kept_old}
-use borrow.Author.Rules.{rules}
 use Rattle.station.proofs.put_kept.Goals as goal
 
 pub returns-then-code-eq0 : goal.returns-then-code-eq0

@@ -1,6 +1,5 @@
 -- `station::put_one` meets its contract. Assumes nothing.
 use Rattle.station.proofs.Calls.{one_put}
-use borrow.Author.Rules.{rules}
 use Rattle.station.proofs.put_one.Goals as goal
 
 pub returns : goal.returns

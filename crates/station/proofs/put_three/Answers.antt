@@ -1,6 +1,5 @@
 -- `station::put_three` meets its contract. Assumes nothing.
 use Rattle.station.proofs.Calls.{three_put}
-use borrow.Author.Rules.{rules}
 use Rattle.station.proofs.put_three.Goals as goal
 
 pub returns : goal.returns

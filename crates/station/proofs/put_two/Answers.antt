@@ -1,6 +1,5 @@
 -- `station::put_two` meets its contract. Assumes nothing.
 use Rattle.station.proofs.Calls.{two_put}
-use borrow.Author.Rules.{rules}
 use Rattle.station.proofs.put_two.Goals as goal
 
 pub returns : goal.returns

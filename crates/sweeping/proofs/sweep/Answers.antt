@@ -1,11 +1,9 @@
 -- `sweeping::sweep` meets its contract, by the cases of its rule. Assumes nothing.
 use mathlib.Core.Path.{◌≡◌, refl, sym, ◌∙◌}
-use mathlib.Core.Logic.{⊎_elim}
 use mathlib.Core.Bool.{true}
 use Prim.Native.Nat.{◌+◌, ◌/◌, ◌≤◌}
 use native.Mathlib.Omega.{arith}
 use lib.ListN.{length}
-use borrow.Author.Tests.{not-true, not-false}
 use Rattle.ground.proofs.Once.{does_case}
 use Rattle.desk.specs.Sound.{sound}
 use Rattle.words.specs.Words.{desk_in}
@@ -16,7 +14,6 @@ use Rattle.strands.specs.Strands.{RowsIn}
 use Rattle.sweeping.specs.Sweeping.{treated, all_whole}
 use Rattle.sweeping.proofs.Treats.{inside}
 use Rattle.sweeping.proofs.Calls.{treats_quota, treats_rest, treats_few, sweep_1, sweep_2, sweep_5, sweep_6, sweep_0}
-use borrow.Author.Rules.{rules}
 use Rattle.sweeping.proofs.sweep.Goals as goal
 use Rattle.sweeping.proofs.sweep.Goals.{Else-not-are_whole, Else-not-is_sound, Else-not-lengths_ok, Joined-quota-n, then-quota-n, else-quota-n}
 

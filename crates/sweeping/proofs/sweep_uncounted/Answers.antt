@@ -1,17 +1,16 @@
 -- `sweeping::sweep_uncounted` meets its contract. The loop's invariant: from here on the rule does what it does from the first row on, of
 -- the areas tallied; that the rows to come still have no break is the independence of rows. Assumes nothing.
-use borrow.Author.Rules.{rules}
-use mathlib.Core.Path.{◌≡◌, refl}
-use Prim.Native.Nat.{◌+◌, ◌≤◌, ◌-◌, ◌*◌, ◌/◌}
+use mathlib.Core.Path.{refl}
+use Prim.Native.Nat.{◌+◌, ◌≤◌, ◌/◌}
 use native.Mathlib.Omega.{arith}
 use lib.ListN.{length}
 use Rattle.kind.specs.Kind.{undo_kind}
 use Rattle.kind.specs.Areas.{both}
 use Rattle.kind.proofs.Lengths.{all_lent, status_length}
-use Rattle.freeing.specs.Tally.{tallied, tallied_both}
+use Rattle.freeing.specs.Tally.{tallied}
 use Rattle.freeing.proofs.Tallies.{length_tallied}
 use Rattle.strands.specs.Strands.{RowsIn}
-use Rattle.sweeping.proofs.Treats.{Upto, inside, ready, upto_start, upto_whole, upto_next, upto_end, gone_few}
+use Rattle.sweeping.proofs.Treats.{inside, ready, upto_start, upto_whole, upto_next, upto_end, gone_few}
 use Rattle.sweeping.proofs.Dues.{inside_tallied}
 use Rattle.ground.proofs.Once.{by_halves}
 use Rattle.sweeping.proofs.sweep_uncounted.Goals as goal

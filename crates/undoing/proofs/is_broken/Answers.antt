@@ -1,19 +1,14 @@
 -- `undoing::is_broken` meets its contract. The outer loop's invariant: in no row before this one is a break met. The inner loop's: from
 -- here on the walk that counts says whether one is met in this row. Assumes nothing.
 use borrow.Author.Rules.{rules}
-use borrow.Author.Tests.{not-true, not-false}
 use mathlib.Core.Path.{◌≡◌}
-use mathlib.Core.Logic.{⊎_elim}
 use mathlib.Core.Bool.{true}
-use Prim.Native.Nat.{suc, ◌+◌, ◌-◌, ◌≤◌, ◌<◌, ◌^◌}
+use Prim.Native.Nat.{◌+◌, ◌<◌, ◌^◌}
 use native.Mathlib.Omega.{arith}
-use Rattle.ground.specs.Range.{all_below}
 use Rattle.ground.proofs.Ranges.{all_more}
 use Rattle.kind.specs.Kind.{entries}
-use Rattle.chain.specs.Chain.{link_of}
-use Rattle.seeking.specs.Seeking.{is_broken}
 use Rattle.undoing.specs.Undoing.{broken_row, some_broken}
-use Rattle.undoing.proofs.Breaks.{fine, walked, none_looked, none_broken, one_broken, row_other, row_start, row_end, row_break, row_out, row_found, row_on}
+use Rattle.undoing.proofs.Breaks.{none_looked, none_broken, one_broken, row_other, row_start, row_end, row_break, row_out, row_found, row_on}
 use Rattle.undoing.proofs.is_broken.Goals as goal
 use Rattle.undoing.proofs.is_broken.Goals.{then-is_own+in-End, then-is_own+in-To+else-looked-most+then-not-is_own, else-is_own, After-entries-most, After-is_own}
 

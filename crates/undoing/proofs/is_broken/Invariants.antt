@@ -1,19 +1,14 @@
 -- `undoing::is_broken` meets its contract. The outer loop's invariant: in no row before this one is a break met. The inner loop's: from
 -- here on the walk that counts says whether one is met in this row. Assumes nothing.
-use borrow.Author.Rules.{rules}
-use borrow.Author.Tests.{not-true, not-false}
 use mathlib.Core.Path.{◌≡◌}
-use mathlib.Core.Logic.{⊎_elim}
 use mathlib.Core.Bool.{true}
-use Prim.Native.Nat.{suc, ◌+◌, ◌-◌, ◌≤◌, ◌<◌, ◌^◌}
-use native.Mathlib.Omega.{arith}
+use Prim.Native.Nat.{suc, ◌-◌, ◌≤◌}
 use Rattle.ground.specs.Range.{all_below}
-use Rattle.ground.proofs.Ranges.{all_more}
 use Rattle.kind.specs.Kind.{entries}
 use Rattle.chain.specs.Chain.{link_of}
 use Rattle.seeking.specs.Seeking.{is_broken}
-use Rattle.undoing.specs.Undoing.{broken_row, some_broken}
-use Rattle.undoing.proofs.Breaks.{fine, walked, none_looked, none_broken, one_broken, row_other, row_start, row_end, row_break, row_out, row_found, row_on}
+use Rattle.undoing.specs.Undoing.{broken_row}
+use Rattle.undoing.proofs.Breaks.{fine, walked}
 use Rattle.undoing.proofs.is_broken.Given as goal
 
 abbrev pub invariant-loop-n : goal.invariant-loop-n

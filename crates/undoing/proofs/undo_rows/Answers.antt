@@ -1,13 +1,7 @@
 -- `undoing::undo_rows` meets its contract. The loop's invariant: the rule from here on, in the areas as they are, is the rule from the
 -- start. Assumes nothing.
-use borrow.Author.Rules.{rules}
-use mathlib.Core.Path.{◌≡◌, refl, ◌∙◌}
-use Prim.Native.Nat.{◌≤◌, ◌-◌}
+use mathlib.Core.Path.{refl, ◌∙◌}
 use native.Mathlib.Omega.{arith}
-use lib.ListN.{length}
-use Rattle.kind.specs.Kind.{rows}
-use Rattle.kind.specs.Areas.{both}
-use Rattle.undoing.specs.Undoing.{undone_from}
 use Rattle.undoing.proofs.Rounds.{rows_start, rows_on, rows_end}
 use Rattle.undoing.proofs.undo_rows.Goals as goal
 

@@ -1,7 +1,6 @@
 -- `page::count::items` meets its contract. The invariant: n records of the first i are in use. Assumes nothing.
-use borrow.Author.Tests.{eq-eqb, ne_eqb}
-use mathlib.Core.Path.{◌≡◌, refl, sym, ap, ◌∙◌}
-use mathlib.Core.Bool.{not}
+use mathlib.Core.Path.{◌≡◌, refl}
+use mathlib.Core.Bool.{true, false}
 use Prim.Native.Nat.{ℕ, ◌≤◌, ◌+◌, ◌*◌}
 use native.Mathlib.Omega.{arith}
 use Rattle.ground.specs.Range.{count_below}
@@ -9,7 +8,7 @@ use Rattle.ground.proofs.Ranges.{count_more, count_same}
 use Rattle.little.specs.Little.{little, part}
 use Rattle.page.specs.Count.{in_use, items_in}
 use Rattle.page.proofs.count.items.Goals as goal
-use Rattle.page.proofs.count.items.Goals.{then-get8-ne0, else-get8-ne0}
+use Rattle.std.proofs.lemmas.Bool.Decides.{nat_tests}
 use Rattle.page.proofs.count.items.Goals.{In-loop-i}
 
 -- the record looked at lies in the page
@@ -40,10 +39,9 @@ loop-i-preserved c =
     let i = c.loop-i.i in
     let word : ℕ = little (part (48 + i * c.args.k.size) 8 c.args.page.now) in
     let got : c.get8.result ≡ word = c.get8.ensures in
-    elim c.if-get8-ne0.branch [
-      | then-get8-ne0 w ↦ let more = count_more f i (ap not (ne_eqb word 0 (λ e. w.if-get8-ne0.true (got ∙ e)))) in omega arith
-      | else-get8-ne0 w ↦ let same = count_same f i (ap not (eq-eqb word 0 (sym got ∙ w.if-get8-ne0.false))) in omega arith
-    ]
+    let more : f i ≡ true → count_below f (i + 1) ≡ count_below f i + 1 = count_more f i in
+    let same : f i ≡ false → count_below f (i + 1) ≡ count_below f i = count_same f i in
+    grind (arith, nat_tests, more, same, got)
 
 pub returns : goal.returns
 unfolding items_in

@@ -3,7 +3,6 @@ use mathlib.Core.Path.{ap}
 use mathlib.Core.Bool.{false}
 use Rattle.desk.specs.declared.Desk.{Desk}
 use Rattle.script.specs.Script.{fresh_footing}
-use borrow.Author.Rules.{rules}
 use Rattle.script.proofs.Footing.fresh.Goals as goal
 
 pub returns : goal.returns
