@@ -38,6 +38,7 @@ fn is_reserved(status: &[u8], x: u64) -> bool
 }
 
 // Whether x, "other than the acting session, has status 11".
+#[tactic(auto, using(crate::proofs::Doubts::doubtful_own, crate::proofs::Doubts::doubtful_other))]
 fn is_doubtful(status: &[u8], session: u64, x: u64) -> bool
     requires { length status.now ≡ page_size }
     ensures { result ≡ doubtful session status.now x }

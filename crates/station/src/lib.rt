@@ -46,6 +46,7 @@ fn put_three(out: &mut [u64], a: u64, b: u64, c: u64)
 }
 
 // Writes the desk that format and open hand back, where they are done; where they are refused the words stay.
+#[tactic(auto, using(ground::proofs::Refusals::kept_new, ground::proofs::Refusals::kept_old))]
 fn put_kept(words: &mut [u32], code: u32, new: Desk)
     requires { length words.old ≡ all_words }
     ensures { words.new ≡ kept code (words_of new) words.old }
