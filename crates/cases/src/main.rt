@@ -178,9 +178,7 @@ fn case(
     let o = keep::format(data, undo, status);
     let fresh = o.desk;
     let mut desk = words::words_of(fresh);
-    let n = calls.len() / 2;
-    let mut i = 0;
-    while i < n {
+    for i in 0..calls.len() / 2 {
         let letter = calls[2 * i];
         let digit = calls[2 * i + 1];
         play(
@@ -192,7 +190,6 @@ fn case(
             letter,
             (digit % 16) as u64,
         )?;
-        i += 1;
     }
     Ok(())
 }
