@@ -8,7 +8,7 @@ use Prim.Native.Nat.{ℕ, zero, suc, ◌+◌, ◌-◌, ◌≤◌, ◌<◌}
 use native.Mathlib.Omega.{arith}
 use Rattle.kind.specs.Kind.{pages}
 use Rattle.pointer.specs.declared.Lead.{Lead}
-use Rattle.pointer.specs.declared.Lead.TheVariants.{Nowhere as None, Entry as ToEntry, Astray}
+use Rattle.pointer.specs.declared.Lead.TheVariants.{Nowhere as Nothing, Entry as ToEntry, Astray}
 use Rattle.pointer.specs.Pointer.{lead_of}
 use Rattle.records.specs.declared.slot.Slot.{Slot}
 use Rattle.records.specs.declared.entry.Entry.{Entry}
@@ -43,7 +43,7 @@ module _ (u : List ℕ) (r : ℕ) where
       fit false e = refl
 
       by : (l : Lead) → along l (λ (e : ℕ). ended false) ≡ linked (link_at u r l) (λ (e : ℕ) (m : Entry). ended false)
-      by None = refl
+      by Nothing = refl
       by Astray = refl
       by (ToEntry e) = fit (unfit r (entry_at e u)) e
 
@@ -71,7 +71,7 @@ module _ (u : List ℕ) (r : ℕ) where
           (λ (e : ℕ).
           cond (unfit r (entry_at e u) || among e ps) (ended false) (onto (copy_of e (entry_at e u)) (behind fuel (e ∷ ps) (entry_at e u))))
           ≡ linked (link_at u r l) next
-      by None = refl
+      by Nothing = refl
       by Astray = refl
       by (ToEntry e) = fit (unfit r (entry_at e u)) e
 

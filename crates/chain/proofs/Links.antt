@@ -12,7 +12,7 @@ use borrow.Author.Tests.{eqb-true, eqb-false, eq-eqb, ne_eqb}
 use Rattle.little.specs.Little.{part}
 use Rattle.kind.specs.Kind.{pages, entries}
 use Rattle.pointer.specs.declared.Lead.{Lead}
-use Rattle.pointer.specs.declared.Lead.TheVariants.{Nowhere as None, Entry as ToEntry, Astray}
+use Rattle.pointer.specs.declared.Lead.TheVariants.{Nowhere as Nothing, Entry as ToEntry, Astray}
 use Rattle.pointer.specs.Pointer.{lead_of, place_led}
 use Rattle.pointer.proofs.PointerLaws.{lead_of_zero, lead_of_nowhere, lead_of_inside, place_led_lead_of}
 use Rattle.records.specs.declared.entry.Entry.{Entry}
@@ -90,7 +90,7 @@ module _ {lead : Lead} {at : ℕ} (u : List ℕ) (ptr e : ℕ) (is : lead ≡ le
   link_read = entry_at_read e u place_entry
 
 module _ {lead : Lead} (u : List ℕ) (r ptr : ℕ) (is : lead ≡ lead_of (pages u) ptr) where
-  pub link_end : lead ≡ None → End ≡ link_of u r ptr
+  pub link_end : lead ≡ Nothing → End ≡ link_of u r ptr
   unfolding link_of
   link_end h = ap (link_at u r) (sym h ∙ is)
 
@@ -136,7 +136,7 @@ link_real u r ptr e m h = by (lead_of (pages u) ptr) refl h
         }
 
     by : (l : Lead) → lead_of (pages u) ptr ≡ l → link_at u r l ≡ To e m → Real u r ptr e m
-    by None l k = let z : ◌≡◌ {A = ℕ} 0 1 = cc in absurd (omega arith)
+    by Nothing l k = let z : ◌≡◌ {A = ℕ} 0 1 = cc in absurd (omega arith)
     by Astray l k = let z : ◌≡◌ {A = ℕ} 0 1 = cc in absurd (omega arith)
     by (ToEntry q) l k = fit q (unfit r (entry_at q u)) l refl k
 
@@ -149,11 +149,11 @@ pub link_none : (u : List ℕ) (r ptr : ℕ) → link_of u r ptr ≡ End → ptr
 unfolding link_of
 link_none u r ptr h = lead_of_nowhere (pages u) ptr (by (lead_of (pages u) ptr) h)
   where
-    fit : (q : ℕ) (b : Bool) → cond b Break (To q (entry_at q u)) ≡ End → ToEntry q ≡ None
+    fit : (q : ℕ) (b : Bool) → cond b Break (To q (entry_at q u)) ≡ End → ToEntry q ≡ Nothing
     fit q true k = let z : ◌≡◌ {A = ℕ} 0 1 = cc in absurd (omega arith)
     fit q false k = let z : ◌≡◌ {A = ℕ} 0 1 = cc in absurd (omega arith)
 
-    by : (l : Lead) → link_at u r l ≡ End → l ≡ None
-    by None k = refl
+    by : (l : Lead) → link_at u r l ≡ End → l ≡ Nothing
+    by Nothing k = refl
     by Astray k = let z : ◌≡◌ {A = ℕ} 0 1 = cc in absurd (omega arith)
     by (ToEntry q) k = fit q (unfit r (entry_at q u)) k

@@ -3,7 +3,7 @@
 use Rattle.std.specs.Prelude.{ℕ, zero, suc, Bool, true, false, not, ◌||◌, cond, List, [], ◌∷◌, eqb}
 use Rattle.kind.specs.Kind.{pages, entries}
 use Rattle.pointer.specs.declared.Lead.{Lead}
-use Rattle.pointer.specs.declared.Lead.TheVariants.{Nowhere as None, Entry as ToEntry, Astray}
+use Rattle.pointer.specs.declared.Lead.TheVariants.{Nowhere as Nothing, Entry as ToEntry, Astray}
 use Rattle.pointer.specs.Pointer.{lead_of}
 use Rattle.records.specs.declared.slot.Slot.{Slot}
 use Rattle.records.specs.declared.entry.Entry.{Entry}
@@ -41,7 +41,7 @@ unfit r m = eqb m.writer 0 || not (eqb m.row r) || eqb m.copy.create 0
 -- by where a pointer leads: "0 means none" ends the chain whole; "isn't well formed, leads outside the area or between entries"
 -- breaks it; at an entry the chain goes on as `next` says
 abbrev pub along : Lead → (ℕ → Chain) → Chain
-along None next = ended true
+along Nothing next = ended true
 along Astray next = ended false
 along (ToEntry e) next = next e
 
@@ -62,7 +62,7 @@ chain_of d u r =
 
 -- one step along the chain: where a pointer of row r leads, the entries passed left out of account
 abbrev pub link_at : List ℕ → ℕ → Lead → Link
-link_at u r None = End
+link_at u r Nothing = End
 link_at u r Astray = Break
 link_at u r (ToEntry e) = cond (unfit r (entry_at e u)) Break (To e (entry_at e u))
 

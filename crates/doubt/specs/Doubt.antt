@@ -10,7 +10,7 @@ use Rattle.records.specs.declared.slot.Slot.{Slot}
 use Rattle.kind.specs.Kind.{entries}
 use Rattle.chain.specs.Chain.{Version, chain_from, chain_of}
 use Rattle.chain.specs.declared.Walk.{Walk}
-use Rattle.chain.specs.declared.Walk.TheVariants.{Found as At, Absent as None, Broken as Break}
+use Rattle.chain.specs.declared.Walk.TheVariants.{Found as At, Absent as NoVersion, Broken as Break}
 use Rattle.chain.specs.Walk.{stamp_of, there_in, walk_rule}
 use Rattle.doubt.specs.declared.Look.{Look}
 use Rattle.doubt.specs.declared.Look.TheVariants.{Found, Absent, Broken, Doubted}
@@ -63,7 +63,7 @@ doubts_behind u s v r ptr = some_in (doubt_in v.number s) (versions_looked_at (t
 -- otherwise any such version looked at, the answer included, gives 17"
 abbrev pub look_by : Bool → Walk → Look
 look_by t (At place n) = cond t Doubted (Found place n)
-look_by t None = cond t Doubted Absent
+look_by t NoVersion = cond t Doubted Absent
 look_by t Break = Broken
 
 -- of row r, as view v has it

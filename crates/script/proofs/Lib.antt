@@ -3,5 +3,3 @@ pub mod Steps
 pub mod Portions
 pub mod Goings
 pub mod Promises
-pub mod Again
-pub mod Loans

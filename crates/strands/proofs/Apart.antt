@@ -9,7 +9,7 @@ use lib.Dec.{eqb}
 use borrow.Author.Tests.{eqb-true, eqb-false}
 use Rattle.kind.specs.Kind.{pages, entries}
 use Rattle.pointer.specs.declared.Lead.{Lead}
-use Rattle.pointer.specs.declared.Lead.TheVariants.{Nowhere as None, Entry as ToEntry, Astray}
+use Rattle.pointer.specs.declared.Lead.TheVariants.{Nowhere as Nothing, Entry as ToEntry, Astray}
 use Rattle.pointer.specs.Pointer.{lead_of}
 use Rattle.records.specs.declared.slot.Slot.{Slot}
 use Rattle.records.specs.declared.entry.Entry.{Entry}
@@ -127,7 +127,7 @@ module _ {r : ℕ} {u u' : List ℕ} (f : OfRow r u u') (t : ℕ) (ne : t ≡ r 
           ∙ sym (ap (λ (b : Bool). cond b Break (To q (entry_at q u))) (others (entry_at q u) (inr differs.0)))
 
       by : (l : Lead) → link_at u' t l ≡ link_at u t l
-      by None = refl
+      by Nothing = refl
       by Astray = refl
       by (ToEntry q) = at q (f.entries q)
 

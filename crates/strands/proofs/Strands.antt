@@ -9,7 +9,7 @@ use borrow.Author.Tests.{eqb-true, eqb-false}
 use Rattle.ground.proofs.Ranges.{or_swap}
 use Rattle.kind.specs.Kind.{pages, entries}
 use Rattle.pointer.specs.declared.Lead.{Lead}
-use Rattle.pointer.specs.declared.Lead.TheVariants.{Nowhere as None, Entry as ToEntry, Astray}
+use Rattle.pointer.specs.declared.Lead.TheVariants.{Nowhere as Nothing, Entry as ToEntry, Astray}
 use Rattle.pointer.specs.Pointer.{lead_of}
 use Rattle.records.specs.declared.entry.Entry.{Entry}
 use Rattle.records.specs.Entry.{entry_at}
@@ -76,7 +76,7 @@ link_freed e u u' f r ptr = ap (λ (n : ℕ). link_at u' r (lead_of n ptr)) f.si
         ∙ kept q (unfit r (entry_at q u)) k
 
     by : (l : Lead) → link_at u' r l ≡ less is (link_at u r l)
-    by None = refl
+    by Nothing = refl
     by Astray = refl
     by (ToEntry q) = at q (eqb q e) refl
 

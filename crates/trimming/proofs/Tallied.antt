@@ -6,7 +6,7 @@ use Prim.Native.Nat.{ℕ, ◌/◌}
 use Rattle.kind.specs.declared.Kind.{Kind}
 use Rattle.kind.specs.Kind.{pages}
 use Rattle.pointer.specs.declared.Lead.{Lead}
-use Rattle.pointer.specs.declared.Lead.TheVariants.{Nowhere as None, Entry as ToEntry, Astray}
+use Rattle.pointer.specs.declared.Lead.TheVariants.{Nowhere as Nothing, Entry as ToEntry, Astray}
 use Rattle.pointer.specs.Pointer.{lead_of}
 use Rattle.records.specs.declared.entry.Entry.{Entry}
 use Rattle.chain.specs.declared.Link.TheVariants.{Break, To}
@@ -20,6 +20,6 @@ link_of_tallied k due u r ptr =
     ap (λ (n : ℕ). link_at (tallied k due u) r (lead_of (n / 8192) ptr)) (length_tallied k due u) ∙ by (lead_of (pages u) ptr)
   where
     by : (l : Lead) → link_at (tallied k due u) r l ≡ link_at u r l
-    by None = refl
+    by Nothing = refl
     by Astray = refl
     by (ToEntry e) = ap (λ (m : Entry). cond (unfit r m) Break (To e m)) (entry_at_tallied k due u e)

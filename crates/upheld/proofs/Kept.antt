@@ -10,7 +10,7 @@ use borrow.Author.Tests.{eqb-true, ltb-true, leb-true, not-false}
 use Rattle.kind.specs.Kind.{pages, rows, data_kind, undo_kind, status_kind}
 use Rattle.kind.specs.Place.{number_of}
 use Rattle.pointer.specs.declared.Lead.{Lead}
-use Rattle.pointer.specs.declared.Lead.TheVariants.{Nowhere as None, Entry as ToEntry, Astray}
+use Rattle.pointer.specs.declared.Lead.TheVariants.{Nowhere as Nothing, Entry as ToEntry, Astray}
 use Rattle.pointer.specs.Pointer.{lead_of}
 use Rattle.status.specs.declared.Status.{Status}
 use Rattle.status.specs.declared.Status.TheVariants.{InWork}
@@ -50,7 +50,7 @@ module _ (d u : List ℕ) where
   u' = sealed_area (pages u) u
 
   link_sealed : (t : ℕ) (l : Lead) → link_at u' t l ≡ link_at u t l
-  link_sealed t None = refl
+  link_sealed t Nothing = refl
   link_sealed t Astray = refl
   link_sealed t (ToEntry e) =
       ap (λ (m : Entry). cond (unfit t m) Break (To e m)) (sealed_area_keeps (entry_at e) (entry_at_sealed_page e) (pages u) u)

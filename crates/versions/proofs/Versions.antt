@@ -10,7 +10,7 @@ use lib.Dec.{eqb}
 use borrow.Author.Tests.{eqb-true, eqb-false, ne_eqb}
 use Rattle.kind.specs.Kind.{pages, rows, entries}
 use Rattle.pointer.specs.declared.Lead.{Lead}
-use Rattle.pointer.specs.declared.Lead.TheVariants.{Nowhere as None, Entry as ToEntry, Astray}
+use Rattle.pointer.specs.declared.Lead.TheVariants.{Nowhere as Nothing, Entry as ToEntry, Astray}
 use Rattle.pointer.specs.Pointer.{lead_of, pointer_to}
 use Rattle.pointer.proofs.PointerLaws.{lead_of_pointer_to, lead_of_zero, pointer_to_below}
 use Rattle.records.specs.declared.slot.Slot.{Slot}
@@ -144,7 +144,7 @@ module _ {r e : ℕ} {u u' : List ℕ} (k : Taken r e u u') where
 
   -- any other link is as it was
   lead_agree : (t : ℕ) (l : Lead) → (l ≡ ToEntry e → link_at u' t (ToEntry e) ≡ link_at u t (ToEntry e)) → link_at u' t l ≡ link_at u t l
-  lead_agree t None f = refl
+  lead_agree t Nothing f = refl
   lead_agree t Astray f = refl
   lead_agree t (ToEntry q) f = by (eqb q e) refl
     where

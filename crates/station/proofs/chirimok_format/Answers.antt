@@ -1,0 +1,26 @@
+-- `station::chirimok_format` meets its contract: the call, and the desk's words. Assumes nothing.
+use Prim.Native.Nat.{ℕ}
+use mathlib.Core.Path.{refl}
+use mathlib.Core.List.{[]}
+use Rattle.kind.specs.Areas.{Areas}
+use Rattle.desk.specs.declared.Desk.{Desk}
+use Rattle.ground.specs.Refuse.{kept}
+use Rattle.words.specs.Words.{desk_in, words_of}
+use Rattle.station.specs.Station.{format_call}
+use Rattle.station.proofs.Calls.{calls, kept_by}
+use borrow.Author.Rules.{rules}
+use Rattle.station.proofs.chirimok_format.Goals as goal
+
+pub returns : goal.returns
+unfolding format_call
+returns c =
+    calls
+    (λ (y : ℕ × Desk). y.0)
+    (λ (a : Areas). a)
+    (λ (y : ℕ × Desk). kept y.0 (words_of (kept y.0 y.1 (desk_in c.args.desk.now))) c.args.desk.now)
+    (λ (y : ℕ × Desk). [])
+    _
+    c.format-o.ensures
+    c.code-code.ensures
+    (kept_by _ c.args.desk.now c.code-code.ensures c.put_kept.ensures)
+    refl
