@@ -108,18 +108,20 @@ fn gave(kept: usize, got: Option<usize>, room: &[u8]) -> Filled
     requires { kept + length room.now < 2 ^ 64 }
     ensures { result ≡ filled_by kept got (length room.now) }
 {
-    let Some(got) = got else {
-        return Filled {
+    match got {
+        Some(got) => {
+            let n = got.min(room.len());
+            Filled {
+                good: true,
+                end: kept + n,
+                last: n == 0,
+            }
+        }
+        None => Filled {
             good: false,
             end: kept,
             last: true,
-        };
-    };
-    let n = got.min(room.len());
-    Filled {
-        good: true,
-        end: kept + n,
-        last: n == 0,
+        },
     }
 }
 
