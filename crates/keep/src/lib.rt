@@ -1,4 +1,6 @@
 // Format, seal and open: the calls that keep a store between its days ("01, The page", "01, When the desk says no").
+#![tactic(auto)]
+
 ghost use Rattle.std.specs.Prelude.{◌≡◌, ◌*◌, ◌≤◌, length};
 ghost use Rattle.ground.specs.Does.{Does};
 ghost use Rattle.answer.specs.Code.{code_of};

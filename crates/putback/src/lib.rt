@@ -1,5 +1,7 @@
 // What withdrawing does to one row ("01, Writes, withdrawal, sweep"). It is written over "S in statement k or later", so that a
 // session can be withdrawn from any of its statements on.
+#![tactic(auto)]
+
 ghost use Rattle.std.specs.Prelude.{◌≡◌, [], ◌<◌};
 ghost use Rattle.kind.specs.Kind.{rows, entries};
 ghost use Rattle.kind.specs.Areas.{both};

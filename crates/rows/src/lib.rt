@@ -1,6 +1,8 @@
 // Insert, update, delete and read ("01, Writes, withdrawal, sweep", "01, When the desk says no"). Areas that a call never writes are
 // lent as they are. The desk is lent as its words: insert and read leave it, and update and delete change nothing of it but one mark, and
 // that only where they answer 10 ("02, T-07").
+#![tactic(auto)]
+
 ghost use Rattle.std.specs.Prelude.{◌≡◌, cond, ◌<◌, length, eqb};
 ghost use Rattle.ground.specs.Does.{Does};
 ghost use Rattle.answer.specs.Code.{code_of};

@@ -1,4 +1,4 @@
-// The store for a station's own program, from C or Rust (include/chirimok.h). Each function hands its call on, and says the number that
+// The store for a station's own program, from C or Rust (include/chirimok.h; station_c gives them their names in the archive). Each function hands its call on, and says the number that
 // the call answers, 0 where it is done. The desk is 289 words of 32 bits, lent; they change only where the call is done, but for the mark
 // of a session that an update or delete answers 10 ("02, T-07"). No rule is here.
 ghost use Rattle.std.specs.Prelude.{◌≡◌, [], ◌∷◌, length};
@@ -90,13 +90,7 @@ fn lies(data: &[u8], undo: &[u8], place: Place) -> Spot
 }
 
 // Formats the areas, and writes a desk without sessions.
-#[unsafe(no_mangle)]
-pub extern "C" fn chirimok_format(
-    data: &mut [u8],
-    undo: &mut [u8],
-    status: &mut [u8],
-    desk: &mut Words,
-) -> u32
+pub fn chirimok_format(data: &mut [u8], undo: &mut [u8], status: &mut [u8], desk: &mut Words) -> u32
     ensures { Does (format_call (areas «data».old undo.old status.old) desk.old) result (handed (areas «data».new undo.new status.new) desk.new []) }
 {
     let o = keep::format(data, undo, status);
@@ -108,8 +102,7 @@ pub extern "C" fn chirimok_format(
 }
 
 // Checks sealed areas, and writes the desk to go on with.
-#[unsafe(no_mangle)]
-pub extern "C" fn chirimok_open(data: &[u8], undo: &[u8], status: &[u8], desk: &mut Words) -> u32
+pub fn chirimok_open(data: &[u8], undo: &[u8], status: &[u8], desk: &mut Words) -> u32
     ensures { Does (open_call (areas «data».now undo.now status.now) desk.old) result (handed (areas «data».now undo.now status.now) desk.new []) }
 {
     let o = keep::open(data, undo, status);
@@ -121,13 +114,7 @@ pub extern "C" fn chirimok_open(data: &[u8], undo: &[u8], status: &[u8], desk: &
 }
 
 // Writes the checksum of every page. No session may be open.
-#[unsafe(no_mangle)]
-pub extern "C" fn chirimok_seal(
-    data: &mut [u8],
-    undo: &mut [u8],
-    status: &mut [u8],
-    desk: &Words,
-) -> u32
+pub fn chirimok_seal(data: &mut [u8], undo: &mut [u8], status: &mut [u8], desk: &Words) -> u32
     ensures { Does (seal_call (areas «data».old undo.old status.old) desk.now) result (handed (areas «data».new undo.new status.new) desk.now []) }
 {
     let a = keep::seal(data, undo, status, desk);
@@ -135,8 +122,7 @@ pub extern "C" fn chirimok_seal(
 }
 
 // Begins a session: out has its number.
-#[unsafe(no_mangle)]
-pub extern "C" fn chirimok_begin(
+pub fn chirimok_begin(
     data: &[u8],
     undo: &[u8],
     status: &mut [u8],
@@ -152,14 +138,7 @@ pub extern "C" fn chirimok_begin(
 }
 
 // Moves a session on to its next statement.
-#[unsafe(no_mangle)]
-pub extern "C" fn chirimok_next(
-    data: &[u8],
-    undo: &[u8],
-    status: &[u8],
-    desk: &mut Words,
-    session: u64,
-) -> u32
+pub fn chirimok_next(data: &[u8], undo: &[u8], status: &[u8], desk: &mut Words, session: u64) -> u32
     ensures { Does (next_call (areas «data».now undo.now status.now) desk.old session) result (handed (areas «data».now undo.now status.now) desk.new []) }
 {
     let a = turns::next(data, undo, status, desk, session);
@@ -167,8 +146,7 @@ pub extern "C" fn chirimok_next(
 }
 
 // Makes a new row: out has its number.
-#[unsafe(no_mangle)]
-pub extern "C" fn chirimok_insert(
+pub fn chirimok_insert(
     data: &mut [u8],
     undo: &[u8],
     status: &[u8],
@@ -186,8 +164,7 @@ pub extern "C" fn chirimok_insert(
 }
 
 // Replaces a row's body. Where it answers 10 the session's mark is set, and no other word changes.
-#[unsafe(no_mangle)]
-pub extern "C" fn chirimok_update(
+pub fn chirimok_update(
     data: &mut [u8],
     undo: &mut [u8],
     status: &[u8],
@@ -203,8 +180,7 @@ pub extern "C" fn chirimok_update(
 }
 
 // Ends a row. Where it answers 10 the session's mark is set, and no other word changes.
-#[unsafe(no_mangle)]
-pub extern "C" fn chirimok_delete<'a>(
+pub fn chirimok_delete<'a>(
     data: &mut [u8],
     undo: &'a [u8],
     status: &'a [u8],
@@ -219,8 +195,7 @@ pub extern "C" fn chirimok_delete<'a>(
 }
 
 // Finds what a session reads: out has the count of versions looked at, the area (1 data, 2 undo), and where in it the body begins.
-#[unsafe(no_mangle)]
-pub extern "C" fn chirimok_read<'a>(
+pub fn chirimok_read<'a>(
     data: &'a [u8],
     undo: &'a [u8],
     status: &'a [u8],
@@ -240,8 +215,7 @@ pub extern "C" fn chirimok_read<'a>(
 }
 
 // Commits a session's writes, and closes it.
-#[unsafe(no_mangle)]
-pub extern "C" fn chirimok_commit(
+pub fn chirimok_commit(
     data: &[u8],
     undo: &[u8],
     status: &mut [u8],
@@ -255,8 +229,7 @@ pub extern "C" fn chirimok_commit(
 }
 
 // Takes a session's writes back, and closes it.
-#[unsafe(no_mangle)]
-pub extern "C" fn chirimok_withdraw(
+pub fn chirimok_withdraw(
     data: &mut [u8],
     undo: &mut [u8],
     status: &mut [u8],
@@ -270,8 +243,7 @@ pub extern "C" fn chirimok_withdraw(
 }
 
 // Sweeps as many rows: out has the next row and the versions removed.
-#[unsafe(no_mangle)]
-pub extern "C" fn chirimok_sweep(
+pub fn chirimok_sweep(
     data: &mut [u8],
     undo: &mut [u8],
     status: &[u8],

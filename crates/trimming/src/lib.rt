@@ -1,6 +1,8 @@
 // What the sweep does to one row ("01, Writes, withdrawal, sweep"): "the first version whose expirer is committed and below the mark
 // goes with all older ones; the newer version's pointer becomes 0, or the slot is emptied". The row's chain is whole. The counts of the
 // pages written in are due in the flags lent, so each contract speaks of the areas tallied, before and after.
+#![tactic(auto)]
+
 ghost use Rattle.std.specs.Prelude.{◌≡◌, true, ◌≤◌, ◌<◌, length};
 ghost use Rattle.kind.specs.Kind.{page_size, data_kind, undo_kind, pages, rows};
 ghost use Rattle.records.specs.Slot.{unlinked};

@@ -1,6 +1,8 @@
 // Begin, next statement and commit on the areas ("01, Sessions and sight", "01, When the desk says no"). They look at the lengths of
 // all three areas and write the status page alone. The desk comes as its words: a Desk is made of them once the call is admitted, and
 // the new one that its method hands back is written in their place; a refused call leaves them.
+#![tactic(auto)]
+
 ghost use Rattle.std.specs.Prelude.{◌≡◌};
 ghost use Rattle.ground.specs.Does.{Does};
 ghost use Rattle.answer.specs.Code.{code_of};

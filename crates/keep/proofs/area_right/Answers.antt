@@ -1,11 +1,8 @@
 -- `keep::area_right` meets its contract. The invariant: the first p pages are right. Assumes nothing.
 use mathlib.Core.Path.{◌≡◌, refl, sym, ◌∙◌}
-use mathlib.Core.Bool.{true}
-use Prim.Native.Nat.{◌≤◌, ◌+◌, ◌-◌, ◌/◌}
+use Prim.Native.Nat.{◌+◌, ◌/◌}
 use native.Mathlib.Omega.{arith}
 use lib.ListN.{length}
-use borrow.Author.Rules.{rules}
-use borrow.Author.Tests.{not-true, not-false}
 use Rattle.ground.specs.Range.{all_below}
 use Rattle.ground.proofs.Ranges.{all_more, all_four, all_short, all_fails}
 use Rattle.whole.specs.Abreast.{right_at}

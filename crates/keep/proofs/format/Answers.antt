@@ -1,10 +1,8 @@
 -- `keep::format` meets its contract. Assumes nothing.
 use mathlib.Core.Path.{◌≡◌, refl, sym, ap, ◌∙◌}
-use mathlib.Core.Bool.{Bool, true, false}
+use mathlib.Core.Bool.{true, false}
 use native.Mathlib.Omega.{arith}
 use lib.ListN.{length}
-use borrow.Author.Rules.{rules}
-use borrow.Author.Tests.{not-true, not-false}
 use Rattle.desk.specs.declared.Desk.{Desk}
 use Rattle.kind.specs.Kind.{lengths_ok}
 use Rattle.kind.proofs.Lengths.{all_lent}

@@ -1,10 +1,7 @@
 -- `keep::format_area` meets its contract. The invariant: the first p pages are blank; then all are sealed. Assumes nothing.
-use mathlib.Core.Path.{◌≡◌, refl}
-use Prim.Native.Nat.{◌≤◌, ◌-◌}
+use mathlib.Core.Path.{refl}
 use native.Mathlib.Omega.{arith}
-use lib.ListN.{length}
-use borrow.Author.Rules.{rules}
-use Rattle.keep.proofs.Fresh.{Blank, blank_more, fresh_area_all}
+use Rattle.keep.proofs.Fresh.{blank_more, fresh_area_all}
 use Rattle.keep.proofs.format_area.Goals as goal
 
 pub loop-p-init : goal.loop-p-init

@@ -1,10 +1,8 @@
 -- `keep::format_area` meets its contract. The invariant: the first p pages are blank; then all are sealed. Assumes nothing.
-use mathlib.Core.Path.{◌≡◌, refl}
+use mathlib.Core.Path.{◌≡◌}
 use Prim.Native.Nat.{◌≤◌, ◌-◌}
-use native.Mathlib.Omega.{arith}
 use lib.ListN.{length}
-use borrow.Author.Rules.{rules}
-use Rattle.keep.proofs.Fresh.{Blank, blank_more, fresh_area_all}
+use Rattle.keep.proofs.Fresh.{Blank}
 use Rattle.keep.proofs.format_area.Given as goal
 
 abbrev pub invariant-loop-p : goal.invariant-loop-p

@@ -1,15 +1,13 @@
 -- `keep::open` meets its contract. Assumes nothing.
 use mathlib.Core.Path.{◌≡◌, sym, ap, ◌∙◌}
-use mathlib.Core.Bool.{Bool, true, false}
+use mathlib.Core.Bool.{true, false}
 use Prim.Native.Nat.{ℕ, ◌+◌}
 use native.Mathlib.Omega.{arith}
 use lib.ListN.{length}
-use borrow.Author.Rules.{rules}
-use borrow.Author.Tests.{not-true, not-false}
 use Rattle.desk.specs.declared.Desk.{Desk}
 use Rattle.desk.specs.Desk.{fresh_desk}
 use Rattle.kind.specs.Kind.{lengths_ok}
-use Rattle.kind.specs.Areas.{Areas, areas}
+use Rattle.kind.specs.Areas.{areas}
 use Rattle.kind.proofs.Lengths.{all_lent}
 use Rattle.keep.specs.Whole.{highest, store_right}
 use Rattle.keep.proofs.Pages.{highest_store_right}

@@ -1,6 +1,5 @@
 -- `keep::refused` meets its contract. Assumes nothing.
 use mathlib.Core.Path.{ap}
-use borrow.Author.Rules.{rules}
 use Rattle.answer.specs.Code.{code_of}
 use Rattle.desk.specs.declared.Desk.{Desk}
 use Rattle.keep.proofs.refused.Goals as goal

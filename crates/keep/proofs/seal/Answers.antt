@@ -1,9 +1,7 @@
 -- `keep::seal` meets its contract. Assumes nothing.
 use mathlib.Core.Path.{◌≡◌, refl, sym, ◌∙◌}
-use mathlib.Core.Bool.{Bool, true, false}
+use mathlib.Core.Bool.{true, false}
 use lib.ListN.{length}
-use borrow.Author.Rules.{rules}
-use borrow.Author.Tests.{not-true, not-false}
 use Rattle.desk.specs.Sound.{sound}
 use Rattle.words.specs.Words.{desk_in}
 use Rattle.kind.specs.Kind.{lengths_ok}

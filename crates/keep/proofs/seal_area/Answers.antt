@@ -1,9 +1,8 @@
 -- `keep::seal_area` meets its contract. The invariant: the first p pages are sealed. Assumes nothing.
 use mathlib.Core.Path.{◌≡◌, refl}
-use Prim.Native.Nat.{◌≤◌, ◌-◌, ◌/◌}
+use Prim.Native.Nat.{◌/◌}
 use native.Mathlib.Omega.{arith}
 use lib.ListN.{length}
-use borrow.Author.Rules.{rules}
 use Rattle.keep.specs.Whole.{sealed_area}
 use Rattle.keep.proofs.Pages.{sealed_area_more, sealed_area_four}
 use Rattle.keep.proofs.seal_area.Goals as goal

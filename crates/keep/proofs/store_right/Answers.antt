@@ -1,7 +1,6 @@
 -- `keep::store_right` meets its contract. Assumes nothing.
 use mathlib.Core.Path.{sym}
 use native.Mathlib.Omega.{arith}
-use borrow.Author.Rules.{rules}
 use Rattle.keep.proofs.Pages.{store_right_high, store_right_checks}
 use Rattle.keep.proofs.store_right.Goals as goal
 

@@ -1,5 +1,4 @@
 -- `putback::put_back` meets its contract. Assumes nothing.
-use borrow.Author.Rules.{rules}
 use native.Mathlib.Omega.{arith}
 use Rattle.records.proofs.Entries.{entry_inside}
 use Rattle.putback.proofs.PutBacks.{put_back_lem}

@@ -1,21 +1,14 @@
 -- `putback::take_back` meets its contract. The loop's invariant: the rule from here on, in the areas as they are, is the rule from the
 -- start; an entry that was freed need not be remembered as passed. Assumes nothing.
-use borrow.Author.Rules.{rules}
-use borrow.Author.Tests.{not-true, not-false}
 use denote.Enum.Declared.{tag_of, declared}
 use mathlib.Core.Path.{◌≡◌, refl, sym, ◌∙◌}
-use mathlib.Core.Logic.{⊎_elim}
-use Prim.Native.Nat.{ℕ, ◌<◌}
-use mathlib.Core.List.{[]}
+use Prim.Native.Nat.{◌<◌}
 use native.Mathlib.Omega.{arith}
-use lib.ListN.{length}
 use Rattle.kind.specs.Kind.{entries}
-use Rattle.kind.specs.Areas.{both}
 use Rattle.chain.specs.declared.Link.TheVariants.{To}
-use Rattle.chain.specs.Chain.{chain_from, link_of}
+use Rattle.chain.specs.Chain.{link_of}
 use Rattle.chain.specs.contracts.Link.{enum}
 use Rattle.chain.proofs.Links.{link_real}
-use Rattle.putback.specs.PutBack.{taken_back}
 use Rattle.putback.proofs.PutBacks.{take_start, take_on, take_put, take_out, take_end}
 use borrow.Enum.Refused.{opened}
 use Rattle.putback.proofs.take_back.Goals as goal

@@ -1,5 +1,4 @@
 -- `putback::undo_row` meets its contract, by who made the version in the slot and who ended it. Assumes nothing.
-use borrow.Author.Rules.{rules}
 use Rattle.putback.proofs.PutBacks.{undo_made, undo_ended, undo_left}
 use Rattle.putback.proofs.undo_row.Goals as goal
 

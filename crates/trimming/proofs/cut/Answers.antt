@@ -1,5 +1,4 @@
 -- `trimming::cut` meets its contract, by the place at which it cuts. Assumes nothing.
-use borrow.Author.Rules.{rules}
 use Rattle.trimming.proofs.Cuts.{inside_data, inside_undo, cut_none, cut_data, cut_undo}
 use Rattle.trimming.proofs.cut.Goals as goal
 

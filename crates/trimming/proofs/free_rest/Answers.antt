@@ -3,16 +3,15 @@
 use borrow.Author.Rules.{rules}
 use denote.Enum.Declared.{tag_of, declared}
 use mathlib.Core.Path.{◌≡◌, refl, sym, ◌∙◌}
-use Prim.Native.Nat.{◌≤◌, ◌-◌}
 use native.Mathlib.Omega.{arith}
 use lib.ListN.{length}
-use Rattle.kind.specs.Kind.{undo_kind, entries}
+use Rattle.kind.specs.Kind.{undo_kind}
 use Rattle.chain.specs.contracts.Link.{enum}
 use Rattle.chain.proofs.Links.{link_real}
 use Rattle.freeing.specs.Tally.{tallied}
 use Rattle.freeing.proofs.Tallies.{length_tallied}
 use Rattle.trimming.proofs.Tallied.{link_of_tallied}
-use Rattle.trimming.proofs.Rests.{Freed, freed_start, freed_next, freed_end, freed_out}
+use Rattle.trimming.proofs.Rests.{freed_start, freed_next, freed_end, freed_out}
 use borrow.Enum.Refused.{opened}
 use Rattle.ground.proofs.Once.{by_halves}
 use Rattle.trimming.proofs.free_rest.Goals as goal

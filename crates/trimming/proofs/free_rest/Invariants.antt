@@ -1,18 +1,11 @@
 -- `trimming::free_rest` meets its contract. The loop's invariant: freeing the rest of the chain from here on leaves what freeing it from
 -- the first pointer on does, of the area tallied. Assumes nothing.
-use borrow.Author.Rules.{rules}
-use denote.Enum.Declared.{tag_of, declared}
-use mathlib.Core.Path.{◌≡◌, refl, sym, ◌∙◌}
+use mathlib.Core.Path.{◌≡◌}
 use Prim.Native.Nat.{◌≤◌, ◌-◌}
-use native.Mathlib.Omega.{arith}
 use lib.ListN.{length}
 use Rattle.kind.specs.Kind.{undo_kind, entries}
-use Rattle.chain.specs.contracts.Link.{enum}
-use Rattle.chain.proofs.Links.{link_real}
 use Rattle.freeing.specs.Tally.{tallied}
-use Rattle.freeing.proofs.Tallies.{length_tallied}
-use Rattle.trimming.proofs.Tallied.{link_of_tallied}
-use Rattle.trimming.proofs.Rests.{Freed, freed_start, freed_next, freed_end, freed_out}
+use Rattle.trimming.proofs.Rests.{Freed}
 use Rattle.trimming.proofs.free_rest.Given as goal
 
 abbrev pub invariant-loop-n : goal.invariant-loop-n

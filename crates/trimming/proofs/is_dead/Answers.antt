@@ -1,5 +1,4 @@
 -- `trimming::is_dead` meets its contract. Assumes nothing.
-use borrow.Author.Rules.{rules}
 use Rattle.trimming.proofs.Cuts.{dead_tested, dead_not}
 use Rattle.trimming.proofs.is_dead.Goals as goal
 

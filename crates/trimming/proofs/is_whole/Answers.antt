@@ -1,13 +1,10 @@
 -- `trimming::is_whole` meets its contract. The loop's invariant: from here on the walk that counts, for a test that no version passes,
 -- answers what it does from the slot's pointer on. Assumes nothing.
-use borrow.Author.Rules.{rules}
 use mathlib.Core.Path.{◌≡◌, refl, sym, ◌∙◌}
-use Prim.Native.Nat.{suc, ◌≤◌, ◌-◌}
 use native.Mathlib.Omega.{arith}
-use Rattle.kind.specs.Kind.{entries}
 use Rattle.chain.specs.Chain.{link_of}
 use Rattle.chain.specs.declared.Link.TheVariants.{To}
-use Rattle.chain.proofs.Chains.{run, run_start, run_on}
+use Rattle.chain.proofs.Chains.{run_start, run_on}
 use Rattle.trimming.proofs.Wholes.{never, whole_empty, whole_end, whole_break, whole_out}
 use Rattle.trimming.proofs.is_whole.Goals as goal
 use Rattle.trimming.proofs.is_whole.Goals.{In-To}

@@ -1,14 +1,11 @@
 -- `trimming::is_whole` meets its contract. The loop's invariant: from here on the walk that counts, for a test that no version passes,
 -- answers what it does from the slot's pointer on. Assumes nothing.
-use borrow.Author.Rules.{rules}
-use mathlib.Core.Path.{◌≡◌, refl, sym, ◌∙◌}
+use mathlib.Core.Path.{◌≡◌}
 use Prim.Native.Nat.{suc, ◌≤◌, ◌-◌}
-use native.Mathlib.Omega.{arith}
 use Rattle.kind.specs.Kind.{entries}
 use Rattle.chain.specs.Chain.{link_of}
-use Rattle.chain.specs.declared.Link.TheVariants.{To}
-use Rattle.chain.proofs.Chains.{run, run_start, run_on}
-use Rattle.trimming.proofs.Wholes.{never, whole_empty, whole_end, whole_break, whole_out}
+use Rattle.chain.proofs.Chains.{run}
+use Rattle.trimming.proofs.Wholes.{never}
 use Rattle.trimming.proofs.is_whole.Given as goal
 
 abbrev pub invariant-loop-n : goal.invariant-loop-n

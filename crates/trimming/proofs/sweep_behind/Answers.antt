@@ -3,16 +3,15 @@
 use borrow.Author.Rules.{rules}
 use denote.Enum.Declared.{tag_of, declared}
 use mathlib.Core.Path.{◌≡◌, refl, sym, ◌∙◌}
-use Prim.Native.Nat.{◌≤◌}
 use native.Mathlib.Omega.{arith}
 use lib.ListN.{length}
-use Rattle.kind.specs.Kind.{data_kind, undo_kind, entries}
+use Rattle.kind.specs.Kind.{data_kind, undo_kind}
 use Rattle.chain.specs.contracts.Link.{enum}
 use Rattle.freeing.specs.Tally.{tallied}
 use Rattle.freeing.proofs.Tallies.{length_tallied}
 use Rattle.trimming.proofs.Tallied.{link_of_tallied}
 use Rattle.trimming.proofs.Cuts.{inside_long}
-use Rattle.trimming.proofs.Behinds.{Stays, stays_start, stays_end, stays_out, stays_next, goes_counts, goes_leaves}
+use Rattle.trimming.proofs.Behinds.{stays_start, stays_end, stays_out, stays_next, goes_counts, goes_leaves}
 use borrow.Enum.Refused.{opened}
 use Rattle.ground.proofs.Once.{by_halves}
 use Rattle.trimming.proofs.sweep_behind.Goals as goal

@@ -1,18 +1,11 @@
 -- `trimming::sweep_behind` meets its contract. The loop's invariant: what goes behind the version at which the walk stands is what goes
 -- behind the slot, of the areas tallied, and nothing is written yet. Assumes nothing.
-use borrow.Author.Rules.{rules}
-use denote.Enum.Declared.{tag_of, declared}
-use mathlib.Core.Path.{◌≡◌, refl, sym, ◌∙◌}
+use mathlib.Core.Path.{◌≡◌}
 use Prim.Native.Nat.{◌≤◌}
-use native.Mathlib.Omega.{arith}
 use lib.ListN.{length}
 use Rattle.kind.specs.Kind.{data_kind, undo_kind, entries}
-use Rattle.chain.specs.contracts.Link.{enum}
 use Rattle.freeing.specs.Tally.{tallied}
-use Rattle.freeing.proofs.Tallies.{length_tallied}
-use Rattle.trimming.proofs.Tallied.{link_of_tallied}
-use Rattle.trimming.proofs.Cuts.{inside_long}
-use Rattle.trimming.proofs.Behinds.{Stays, stays_start, stays_end, stays_out, stays_next, goes_counts, goes_leaves}
+use Rattle.trimming.proofs.Behinds.{Stays}
 use Rattle.trimming.proofs.sweep_behind.Given as goal
 
 abbrev pub invariant-loop-left : goal.invariant-loop-left

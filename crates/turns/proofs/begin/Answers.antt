@@ -4,7 +4,6 @@ use mathlib.Core.Bool.{Bool, true}
 use Prim.Native.Nat.{ℕ, ◌<◌}
 use native.Mathlib.Omega.{arith}
 use lib.ListN.{length}
-use borrow.Author.Tests.{not-true, not-false}
 use Rattle.ground.proofs.Once.{does_case}
 use Rattle.places.specs.Open.{open_count}
 use Rattle.desk.specs.declared.Desk.{Desk}
