@@ -3,8 +3,14 @@
 #![tactic(auto)]
 
 use std::env::{Env, FillError};
+use std::fmt::Display;
 use std::fs::File;
 use std::io;
+
+// Says on standard error what could not be had, and why; that it cannot be said either stops nothing.
+fn fail(rt: &HostRuntime, what: &str, why: impl Display + Drop) {
+    let _said = eprintln!(rt; "{what}: {why}");
+}
 
 // The line above a story's answers.
 fn title(rt: &HostRuntime, name: &str) -> io::Result<()> {
@@ -17,28 +23,29 @@ fn play(rt: &HostRuntime, name: &str) -> io::Result<()> {
         Ok(mut script) => {
             title(rt, name)?;
             feeding::feed(rt, &mut script, &mut rt.stdout());
-            Ok(())
         }
-        Err(e) => eprintln!(rt; "{name}: {e}"),
+        Err(e) => fail(rt, name, e),
     }
+    Ok(())
 }
 
-// Runs the script whose name an argument gives, as its bytes. A path is text.
+// Tells the story that an argument names, by its bytes. The name of a file is text.
 fn tell(rt: &HostRuntime, name: &[u8]) -> io::Result<()> {
     match str::from_utf8(name) {
-        Ok(name) => play(rt, name),
-        Err(e) => eprintln!(rt; "stories: the name of a script: {e}"),
+        Ok(name) => play(rt, name)?,
+        Err(e) => fail(rt, "stories: the name of a script", e),
     }
+    Ok(())
 }
 
-// Tells the stories that the arguments name. Argument 0 is the program's own name.
+// Argument 0 is the program's own name.
 fn tell_all(rt: &HostRuntime) -> io::Result<()> {
     let mut name = [0u8; 4096];
     for i in 1..usize::MAX {
         match rt.arg(i, &mut name) {
             Ok(n) => tell(rt, &name[..n])?,
             Err(FillError::TooLong) => {
-                eprintln!(rt; "stories: the name of a script: File name too long")?;
+                fail(rt, "stories: the name of a script", "File name too long");
             }
             Err(FillError::NotPresent) => break,
         }
