@@ -2,7 +2,7 @@
 // rule: which call a line is, what it does and what it answers is `script`'s.
 #![tactic(auto)]
 
-ghost use Rattle.std.specs.Prelude.{◌≡◌, true, ◌++◌, ◌+◌, ◌-◌, ◌^◌, ◌≤◌, ◌<◌, length, take, drop};
+ghost use Rattle.std.specs.Prelude.{◌≡◌, true, ◌++◌, ◌+◌, ◌-◌, ◌^◌, ◌≤◌, ◌<◌, length, take, drop, MatchResult, Some, None};
 ghost use Rattle.kind.specs.Areas.{areas};
 ghost use Rattle.line.specs.Line.{longest as longestLine};
 ghost use Rattle.reply.specs.Reply.{longest as longestAnswer};
@@ -43,7 +43,9 @@ fn keep_rest(text: &mut [u8], from: usize, to: usize)
 }
 
 // What a reading or a writing came to; one that failed is named on standard error, with the system's reason.
-fn told<T: Drop>(errors: &impl Eprint, what: &str, done: io::Result<T>) -> Option<T> {
+fn told<T: Drop>(errors: &impl Eprint, what: &str, done: io::Result<T>) -> Option<T>
+    ensures { MatchResult done (λ got. result ≡ Some got) (λ _. result ≡ None) }
+{
     match done {
         Ok(got) => Some(got),
         Err(e) => {
