@@ -1,7 +1,10 @@
 // Shows the refusals that no script reaches, or only a very long one ("01, When the desk says no"), on areas and desks that are damaged on
 // purpose. A line for each call: what is damaged, the call, the number that it answers, parted by tabs.
+#![tactic(auto)]
+
 use answer::Answer;
 use desk::Desk;
+use std::io;
 use words::{Layout, Words};
 
 // The bodies that are written: of an insert, and of an update.
@@ -22,13 +25,8 @@ const ROW: usize = 56;
 const COPY: usize = 64;
 
 // A line: what is damaged, the call, the number.
-fn line(what: &[u8], call: &[u8], a: Answer) {
-    io::write_all(1, what);
-    io::write_all(1, b"\t");
-    io::write_all(1, call);
-    io::write_all(1, b"\t");
-    io::print_decimal(1, answer::code(a) as u64);
-    io::write_all(1, b"\n");
+fn line(rt: &impl Print, what: &str, call: &str, a: Answer) -> io::Result<()> {
+    println!(rt; "{what}\t{call}\t{}", answer::code(a))
 }
 
 // The damage: one byte of an area.
@@ -38,89 +36,154 @@ fn put(s: &mut [u8], at: usize, value: u8) {
     }
 }
 
-fn format(what: &[u8], data: &mut [u8], undo: &mut [u8], status: &mut [u8]) {
+fn format(
+    rt: &impl Print,
+    what: &str,
+    data: &mut [u8],
+    undo: &mut [u8],
+    status: &mut [u8],
+) -> io::Result<()> {
     let o = keep::format(data, undo, status);
     let a = o.answer;
-    line(what, b"format", a);
+    line(rt, what, "format", a)
 }
 
-fn seal(what: &[u8], data: &mut [u8], undo: &mut [u8], status: &mut [u8], desk: &Words) {
+fn seal(
+    rt: &impl Print,
+    what: &str,
+    data: &mut [u8],
+    undo: &mut [u8],
+    status: &mut [u8],
+    desk: &Words,
+) -> io::Result<()> {
     let a = keep::seal(data, undo, status, desk);
-    line(what, b"seal", a);
+    line(rt, what, "seal", a)
 }
 
-fn open(what: &[u8], data: &[u8], undo: &[u8], status: &[u8]) {
+fn open(rt: &impl Print, what: &str, data: &[u8], undo: &[u8], status: &[u8]) -> io::Result<()> {
     let o = keep::open(data, undo, status);
     let a = o.answer;
-    line(what, b"open", a);
+    line(rt, what, "open", a)
 }
 
-fn begin(what: &[u8], data: &[u8], undo: &[u8], status: &mut [u8], desk: &mut Words) {
+fn begin(
+    rt: &impl Print,
+    what: &str,
+    data: &[u8],
+    undo: &[u8],
+    status: &mut [u8],
+    desk: &mut Words,
+) -> io::Result<()> {
     let b = turns::begin(data, undo, status, desk);
     let a = b.answer;
-    line(what, b"begin", a);
+    line(rt, what, "begin", a)
 }
 
 // Of session 1.
-fn next(what: &[u8], data: &[u8], undo: &[u8], status: &[u8], desk: &mut Words) {
+fn next(
+    rt: &impl Print,
+    what: &str,
+    data: &[u8],
+    undo: &[u8],
+    status: &[u8],
+    desk: &mut Words,
+) -> io::Result<()> {
     let a = turns::next(data, undo, status, desk, 1);
-    line(what, b"next 1", a);
+    line(rt, what, "next 1", a)
 }
 
 // Of row 0, by session s, which `call` names.
 fn read<'a>(
-    what: &[u8],
-    call: &[u8],
+    rt: &impl Print,
+    what: &str,
+    call: &str,
     data: &'a [u8],
     undo: &'a [u8],
     status: &'a [u8],
     desk: &'a Words,
     s: u64,
-) {
+) -> io::Result<()> {
     let r = rows::read(data, undo, status, desk, s, 0);
     let a = r.answer;
-    line(what, call, a);
+    line(rt, what, call, a)
 }
 
 // Of session 1.
-fn insert(what: &[u8], data: &mut [u8], undo: &[u8], status: &[u8], desk: &Words, body: &[u8]) {
+fn insert(
+    rt: &impl Print,
+    what: &str,
+    data: &mut [u8],
+    undo: &[u8],
+    status: &[u8],
+    desk: &Words,
+    body: &[u8],
+) -> io::Result<()> {
     let i = rows::insert(data, undo, status, desk, 1, body);
     let a = i.answer;
-    line(what, b"insert 1", a);
+    line(rt, what, "insert 1", a)
 }
 
 // Of session 3, and so the delete.
 fn update(
-    what: &[u8],
+    rt: &impl Print,
+    what: &str,
     data: &mut [u8],
     undo: &mut [u8],
     status: &[u8],
     desk: &mut Words,
     body: &[u8],
-) {
+) -> io::Result<()> {
     let a = rows::update(data, undo, status, desk, 3, 0, body);
-    line(what, b"update 3 0", a);
+    line(rt, what, "update 3 0", a)
 }
 
-fn delete<'a>(what: &[u8], data: &mut [u8], undo: &'a [u8], status: &'a [u8], desk: &mut Words) {
+fn delete<'a>(
+    rt: &impl Print,
+    what: &str,
+    data: &mut [u8],
+    undo: &'a [u8],
+    status: &'a [u8],
+    desk: &mut Words,
+) -> io::Result<()> {
     let a = rows::delete(data, undo, status, desk, 3, 0);
-    line(what, b"delete 3 0", a);
+    line(rt, what, "delete 3 0", a)
 }
 
-fn commit(what: &[u8], data: &[u8], undo: &[u8], status: &mut [u8], desk: &mut Words) {
+fn commit(
+    rt: &impl Print,
+    what: &str,
+    data: &[u8],
+    undo: &[u8],
+    status: &mut [u8],
+    desk: &mut Words,
+) -> io::Result<()> {
     let a = turns::commit(data, undo, status, desk, 2);
-    line(what, b"commit 2", a);
+    line(rt, what, "commit 2", a)
 }
 
-fn withdraw(what: &[u8], data: &mut [u8], undo: &mut [u8], status: &mut [u8], desk: &mut Words) {
+fn withdraw(
+    rt: &impl Print,
+    what: &str,
+    data: &mut [u8],
+    undo: &mut [u8],
+    status: &mut [u8],
+    desk: &mut Words,
+) -> io::Result<()> {
     let a = undoing::withdraw(data, undo, status, desk, 2);
-    line(what, b"withdraw 2", a);
+    line(rt, what, "withdraw 2", a)
 }
 
-fn sweep(what: &[u8], data: &mut [u8], undo: &mut [u8], status: &[u8], desk: &Words) {
+fn sweep(
+    rt: &impl Print,
+    what: &str,
+    data: &mut [u8],
+    undo: &mut [u8],
+    status: &[u8],
+    desk: &Words,
+) -> io::Result<()> {
     let w = sweeping::sweep(data, undo, status, desk, 0, 127);
     let a = w.answer;
-    line(what, b"sweep 0 127", a);
+    line(rt, what, "sweep 0 127", a)
 }
 
 // A fresh store in which session 1 is open, and the words of its desk.
@@ -156,23 +219,23 @@ fn updated(data: &mut [u8], undo: &mut [u8], status: &mut [u8]) -> Words {
 }
 
 // 1: "an area's length isn't allowed". A data area that lacks a byte of its page, an undo area of half a page, a status area of two.
-fn wrong_lengths() {
+fn wrong_lengths(rt: &impl Print) -> io::Result<()> {
     let mut page = [0; 8192];
     let mut other = [0; 8192];
     let mut short = [0; 8191];
     let mut half = [0; 4096];
-    format(b"data of 8,191 bytes", &mut short, &mut page, &mut other);
-    format(b"undo of 4,096 bytes", &mut page, &mut half, &mut other);
+    format(rt, "data of 8,191 bytes", &mut short, &mut page, &mut other)?;
+    format(rt, "undo of 4,096 bytes", &mut page, &mut half, &mut other)
 }
 
-fn two_status_pages() {
+fn two_status_pages(rt: &impl Print) -> io::Result<()> {
     let mut data = [0; 8192];
     let mut undo = [0; 8192];
     let mut status = [0; 16384];
     let desk = words::words_of(Desk::fresh(Desk::FIRST_NUMBER));
-    let what = b"status of 16,384 bytes";
-    open(what, &data, &undo, &status);
-    seal(what, &mut data, &mut undo, &mut status, &desk);
+    let what = "status of 16,384 bytes";
+    open(rt, what, &data, &undo, &status)?;
+    seal(rt, what, &mut data, &mut undo, &mut status, &desk)
 }
 
 // The words of a desk with these two sessions at its first places.
@@ -192,146 +255,170 @@ fn marked(first: u32, second: u32) -> Words {
 }
 
 // A call of each kind on a desk that is not sound. Each is refused and so alters nothing, and the next finds the same store and desk.
-fn try_desk(what: &[u8], data: &mut [u8], undo: &mut [u8], status: &mut [u8], desk: &mut Words) {
-    begin(what, data, undo, status, desk);
-    seal(what, data, undo, status, desk);
-    sweep(what, data, undo, status, desk);
-    read(what, b"read 1 0", data, undo, status, desk, 1);
+fn try_desk(
+    rt: &impl Print,
+    what: &str,
+    data: &mut [u8],
+    undo: &mut [u8],
+    status: &mut [u8],
+    desk: &mut Words,
+) -> io::Result<()> {
+    begin(rt, what, data, undo, status, desk)?;
+    seal(rt, what, data, undo, status, desk)?;
+    sweep(rt, what, data, undo, status, desk)?;
+    read(rt, what, "read 1 0", data, undo, status, desk, 1)
 }
 
-fn on_desk(what: &[u8], mut desk: Words) {
+fn on_desk(rt: &impl Print, what: &str, mut desk: Words) -> io::Result<()> {
     let mut data = [0; 8192];
     let mut undo = [0; 8192];
     let mut status = [0; 8192];
     stocked(&mut data, &mut undo, &mut status);
-    try_desk(what, &mut data, &mut undo, &mut status, &mut desk);
+    try_desk(rt, what, &mut data, &mut undo, &mut status, &mut desk)
 }
 
 // 2: "desk unsound". "The desk holds the next number (1 to 32,576) and at most 16 open sessions in ascending order. Each has its number
 // (below next)". Its mark says whether it is spoiled or not, and that of an unused place is 0 ("02, T-07").
-fn unsound_desks() {
-    on_desk(b"next is 0", desk_of(0, 0, 0));
-    on_desk(b"next is 32,577", desk_of(32577, 0, 0));
-    on_desk(b"session 2 before session 1", desk_of(3, 2, 1));
-    on_desk(b"session 1 twice", desk_of(3, 1, 1));
-    on_desk(b"session 3 where next is 3", desk_of(3, 1, 3));
-    on_desk(b"an unused place before session 1", desk_of(3, 0, 1));
-    on_desk(b"a mark of 2", marked(2, 0));
-    on_desk(b"an unused place with a mark", marked(0, 1));
+fn unsound_desks(rt: &impl Print) -> io::Result<()> {
+    on_desk(rt, "next is 0", desk_of(0, 0, 0))?;
+    on_desk(rt, "next is 32,577", desk_of(32577, 0, 0))?;
+    on_desk(rt, "session 2 before session 1", desk_of(3, 2, 1))?;
+    on_desk(rt, "session 1 twice", desk_of(3, 1, 1))?;
+    on_desk(rt, "session 3 where next is 3", desk_of(3, 1, 3))?;
+    on_desk(rt, "an unused place before session 1", desk_of(3, 0, 1))?;
+    on_desk(rt, "a mark of 2", marked(2, 0))?;
+    on_desk(rt, "an unused place with a mark", marked(0, 1))
 }
 
 // A store opened before it is sealed, and behind the seal.
-fn sealed(data: &mut [u8], undo: &mut [u8], status: &mut [u8]) {
+fn sealed(rt: &impl Print, data: &mut [u8], undo: &mut [u8], status: &mut [u8]) -> io::Result<()> {
     let desk = stocked(data, undo, status);
-    open(b"not sealed after a change", data, undo, status);
-    seal(b"nothing", data, undo, status, &desk);
-    open(b"nothing", data, undo, status);
+    open(rt, "not sealed after a change", data, undo, status)?;
+    seal(rt, "nothing", data, undo, status, &desk)?;
+    open(rt, "nothing", data, undo, status)
 }
 
 // The sealed store with a byte of row 0's body changed, then with the byte as it was.
-fn changed_data(data: &mut [u8], undo: &mut [u8], status: &mut [u8]) {
-    sealed(data, undo, status);
+fn changed_data(
+    rt: &impl Print,
+    data: &mut [u8],
+    undo: &mut [u8],
+    status: &mut [u8],
+) -> io::Result<()> {
+    sealed(rt, data, undo, status)?;
     put(data, BODY, b'c');
-    open(b"a byte of row 0's body", data, undo, status);
+    open(rt, "a byte of row 0's body", data, undo, status)?;
     put(data, BODY, b'a');
-    open(b"the byte is put back", data, undo, status);
+    open(rt, "the byte is put back", data, undo, status)
 }
 
 // With the last byte of the undo page changed, which no entry holds; and with number 1 withdrawn, which was committed: its two bits lie in
 // byte 48, shifted by 2.
-fn changed_others(data: &mut [u8], undo: &mut [u8], status: &mut [u8]) {
+fn changed_others(
+    rt: &impl Print,
+    data: &mut [u8],
+    undo: &mut [u8],
+    status: &mut [u8],
+) -> io::Result<()> {
     put(undo, 8191, 1);
-    open(b"the last byte of the undo page", data, undo, status);
+    open(rt, "the last byte of the undo page", data, undo, status)?;
     put(undo, 8191, 0);
     put(status, 48, 8);
-    open(b"the status of number 1", data, undo, status);
+    open(rt, "the status of number 1", data, undo, status)
 }
 
 // A checksum that fits does not save what is wrong behind it: a page's item_count, which is in bytes 38 and 39.
-fn sealed_count() {
+fn sealed_count(rt: &impl Print) -> io::Result<()> {
     let mut data = [0; 8192];
     let mut undo = [0; 8192];
     let mut status = [0; 8192];
     let desk = stocked(&mut data, &mut undo, &mut status);
     put(&mut data, 38, 2);
-    let what = b"item_count 2 for 1 row";
-    seal(what, &mut data, &mut undo, &mut status, &desk);
-    open(what, &data, &undo, &status);
+    let what = "item_count 2 for 1 row";
+    seal(rt, what, &mut data, &mut undo, &mut status, &desk)?;
+    open(rt, what, &data, &undo, &status)
 }
 
 // Nor does it save a number in work: session 1 is open, and the desk that seals does not know it.
-fn sealed_in_work() {
+fn sealed_in_work(rt: &impl Print) -> io::Result<()> {
     let mut data = [0; 8192];
     let mut undo = [0; 8192];
     let mut status = [0; 8192];
     begun(&mut data, &mut undo, &mut status);
-    let what = b"a desk without session 1";
+    let what = "a desk without session 1";
     let desk = words::words_of(Desk::fresh(2));
-    seal(what, &mut data, &mut undo, &mut status, &desk);
-    open(what, &data, &undo, &status);
+    seal(rt, what, &mut data, &mut undo, &mut status, &desk)?;
+    open(rt, what, &data, &undo, &status)
 }
 
 // 3: "a header field other than txn_id (checksum and item_count included) is wrong, .. or a number from 1 to [the highest] is neither 01
 // nor 10".
-fn wrong_pages() {
+fn wrong_pages(rt: &impl Print) -> io::Result<()> {
     let mut data = [0; 8192];
     let mut undo = [0; 8192];
     let mut status = [0; 8192];
-    changed_data(&mut data, &mut undo, &mut status);
-    changed_others(&mut data, &mut undo, &mut status);
-    sealed_count();
-    sealed_in_work();
+    changed_data(rt, &mut data, &mut undo, &mut status)?;
+    changed_others(rt, &mut data, &mut undo, &mut status)?;
+    sealed_count(rt)?;
+    sealed_in_work(rt)
 }
 
 // 5: "body not 32 bytes". A script's body always has 32.
-fn wrong_inserts() {
+fn wrong_inserts(rt: &impl Print) -> io::Result<()> {
     let mut data = [0; 8192];
     let mut undo = [0; 8192];
     let mut status = [0; 8192];
     let desk = begun(&mut data, &mut undo, &mut status);
-    let what = b"a body of 31 bytes";
-    insert(what, &mut data, &undo, &status, &desk, &[0; 31]);
-    let more = b"a body of 33 bytes";
-    insert(more, &mut data, &undo, &status, &desk, &[0; 33]);
+    let what = "a body of 31 bytes";
+    insert(rt, what, &mut data, &undo, &status, &desk, &[0; 31])?;
+    let more = "a body of 33 bytes";
+    insert(rt, more, &mut data, &undo, &status, &desk, &[0; 33])
 }
 
 // The lowest number first: another has updated the row, and yet the answer is 5 and not 9.
-fn wrong_update() {
+fn wrong_update(rt: &impl Print) -> io::Result<()> {
     let mut data = [0; 8192];
     let mut undo = [0; 8192];
     let mut status = [0; 8192];
     let mut desk = updated(&mut data, &mut undo, &mut status);
-    let what = b"a body of 31 bytes";
-    update(what, &mut data, &mut undo, &status, &mut desk, &[0; 31]);
+    let what = "a body of 31 bytes";
+    update(rt, what, &mut data, &mut undo, &status, &mut desk, &[0; 31])
 }
 
 // The five calls that follow a chain, on one damaged store: each is refused and so alters nothing.
-fn follow(what: &[u8], data: &mut [u8], undo: &mut [u8], status: &mut [u8], desk: &mut Words) {
-    read(what, b"read 3 0", data, undo, status, desk, 3);
-    update(what, data, undo, status, desk, &NEW);
-    delete(what, data, undo, status, desk);
-    withdraw(what, data, undo, status, desk);
-    sweep(what, data, undo, status, desk);
+fn follow(
+    rt: &impl Print,
+    what: &str,
+    data: &mut [u8],
+    undo: &mut [u8],
+    status: &mut [u8],
+    desk: &mut Words,
+) -> io::Result<()> {
+    read(rt, what, "read 3 0", data, undo, status, desk, 3)?;
+    update(rt, what, data, undo, status, desk, &NEW)?;
+    delete(rt, what, data, undo, status, desk)?;
+    withdraw(rt, what, data, undo, status, desk)?;
+    sweep(rt, what, data, undo, status, desk)
 }
 
 // A byte of the pointer in row 0's slot. Whole, it is 4 × 2^56 + 1 × 2^24 + 48 × 2^8: the low byte 0, then 48, 0, the page 1, and on top 4.
-fn broken_slot(what: &[u8], at: usize, value: u8) {
+fn broken_slot(rt: &impl Print, what: &str, at: usize, value: u8) -> io::Result<()> {
     let mut data = [0; 8192];
     let mut undo = [0; 8192];
     let mut status = [0; 8192];
     let mut desk = updated(&mut data, &mut undo, &mut status);
     put(&mut data, at, value);
-    follow(what, &mut data, &mut undo, &mut status, &mut desk);
+    follow(rt, what, &mut data, &mut undo, &mut status, &mut desk)
 }
 
 // A byte of the entry that the slot points to.
-fn broken_entry(what: &[u8], at: usize, value: u8) {
+fn broken_entry(rt: &impl Print, what: &str, at: usize, value: u8) -> io::Result<()> {
     let mut data = [0; 8192];
     let mut undo = [0; 8192];
     let mut status = [0; 8192];
     let mut desk = updated(&mut data, &mut undo, &mut status);
     put(&mut undo, at, value);
-    follow(what, &mut data, &mut undo, &mut status, &mut desk);
+    follow(rt, what, &mut data, &mut undo, &mut status, &mut desk)
 }
 
 // Makes the copy one of session 2's and its pointer, 16 bytes on, one to its own entry: an entry already passed.
@@ -342,83 +429,90 @@ fn tie(undo: &mut [u8]) {
     put(undo, COPY + 23, 4);
 }
 
-fn ring() {
+fn ring(rt: &impl Print) -> io::Result<()> {
     let mut data = [0; 8192];
     let mut undo = [0; 8192];
     let mut status = [0; 8192];
     let mut desk = updated(&mut data, &mut undo, &mut status);
     tie(&mut undo);
-    let what = b"the entry leads to itself";
-    follow(what, &mut data, &mut undo, &mut status, &mut desk);
+    let what = "the entry leads to itself";
+    follow(rt, what, &mut data, &mut undo, &mut status, &mut desk)
 }
 
 // Whom a break does not meet: session 2 in its next statement, which finds its own version before it; a sweep of other rows; a commit.
-fn bypass(what: &[u8], data: &mut [u8], undo: &mut [u8], status: &mut [u8], desk: &mut Words) {
+fn bypass(
+    rt: &impl Print,
+    what: &str,
+    data: &mut [u8],
+    undo: &mut [u8],
+    status: &mut [u8],
+    desk: &mut Words,
+) -> io::Result<()> {
     turns::next(data, undo, status, desk, 2);
-    read(what, b"next 2, read 2 0", data, undo, status, desk, 2);
+    read(rt, what, "next 2, read 2 0", data, undo, status, desk, 2)?;
     let w = sweeping::sweep(data, undo, status, desk, 1, 127);
     let a = w.answer;
-    line(what, b"sweep 1 127", a);
-    commit(what, data, undo, status, desk);
+    line(rt, what, "sweep 1 127", a)?;
+    commit(rt, what, data, undo, status, desk)
 }
 
-fn unmet() {
+fn unmet(rt: &impl Print) -> io::Result<()> {
     let mut data = [0; 8192];
     let mut undo = [0; 8192];
     let mut status = [0; 8192];
     let mut desk = updated(&mut data, &mut undo, &mut status);
     put(&mut data, POINTER + 7, 5);
-    let what = b"pointer: top byte 5";
-    bypass(what, &mut data, &mut undo, &mut status, &mut desk);
+    let what = "pointer: top byte 5";
+    bypass(rt, what, &mut data, &mut undo, &mut status, &mut desk)
 }
 
 // 6: "A chain is broken at a pointer that isn't well formed, leads outside the area or between entries, leads to a free entry, one of
 // another row or one whose copy has create 0, or leads to an entry already passed."
-fn broken_chains() {
-    broken_slot(b"pointer: top byte 5", POINTER + 7, 5);
-    broken_slot(b"pointer: low byte 1", POINTER, 1);
-    broken_slot(b"pointer: page 0", POINTER + 3, 0);
-    broken_slot(b"pointer: page 2 of 1", POINTER + 3, 2);
-    broken_slot(b"pointer: offset 0, in the header", POINTER + 1, 0);
-    broken_slot(b"pointer: offset 49, between entries", POINTER + 1, 49);
-    broken_slot(b"pointer: offset 128, a free entry", POINTER + 1, 128);
-    broken_entry(b"entry: writer 0", WRITER, 0);
-    broken_entry(b"entry: row 1", ROW, 1);
-    broken_entry(b"entry: create 0 in the copy", COPY, 0);
-    ring();
-    unmet();
+fn broken_chains(rt: &impl Print) -> io::Result<()> {
+    broken_slot(rt, "pointer: top byte 5", POINTER + 7, 5)?;
+    broken_slot(rt, "pointer: low byte 1", POINTER, 1)?;
+    broken_slot(rt, "pointer: page 0", POINTER + 3, 0)?;
+    broken_slot(rt, "pointer: page 2 of 1", POINTER + 3, 2)?;
+    broken_slot(rt, "pointer: offset 0, in the header", POINTER + 1, 0)?;
+    broken_slot(rt, "pointer: offset 49, between entries", POINTER + 1, 49)?;
+    broken_slot(rt, "pointer: offset 128, a free entry", POINTER + 1, 128)?;
+    broken_entry(rt, "entry: writer 0", WRITER, 0)?;
+    broken_entry(rt, "entry: row 1", ROW, 1)?;
+    broken_entry(rt, "entry: create 0 in the copy", COPY, 0)?;
+    ring(rt)?;
+    unmet(rt)
 }
 
 // 13: "next is 32,576". The number before is the last that is handed out.
-fn numbers_used() {
+fn numbers_used(rt: &impl Print) -> io::Result<()> {
     let mut data = [0; 8192];
     let mut undo = [0; 8192];
     let mut status = [0; 8192];
     keep::format(&mut data, &mut undo, &mut status);
     let mut desk = words::words_of(Desk::fresh(32575));
-    begin(b"next is 32,575", &data, &undo, &mut status, &mut desk);
-    begin(b"next is 32,576", &data, &undo, &mut status, &mut desk);
+    begin(rt, "next is 32,575", &data, &undo, &mut status, &mut desk)?;
+    begin(rt, "next is 32,576", &data, &undo, &mut status, &mut desk)
 }
 
 // 14: "statement is 65,535". P11: "statement 65,534 moves on"; P12: "65,535 is refused".
-fn statements_used() {
+fn statements_used(rt: &impl Print) -> io::Result<()> {
     let mut data = [0; 8192];
     let mut undo = [0; 8192];
     let mut status = [0; 8192];
     let mut desk = begun(&mut data, &mut undo, &mut status);
     desk[Layout::STATEMENTS] = 65534;
-    next(b"statement is 65,534", &data, &undo, &status, &mut desk);
-    next(b"statement is 65,535", &data, &undo, &status, &mut desk);
+    next(rt, "statement is 65,534", &data, &undo, &status, &mut desk)?;
+    next(rt, "statement is 65,535", &data, &undo, &status, &mut desk)
 }
 
-fn main() {
-    wrong_lengths();
-    two_status_pages();
-    unsound_desks();
-    wrong_pages();
-    wrong_inserts();
-    wrong_update();
-    broken_chains();
-    numbers_used();
-    statements_used();
+fn main(rt: HostRuntime) -> io::Result<()> {
+    wrong_lengths(&rt)?;
+    two_status_pages(&rt)?;
+    unsound_desks(&rt)?;
+    wrong_pages(&rt)?;
+    wrong_inserts(&rt)?;
+    wrong_update(&rt)?;
+    broken_chains(&rt)?;
+    numbers_used(&rt)?;
+    statements_used(&rt)
 }

@@ -1,32 +1,16 @@
 -- Laws of one reading: what it gave, by what it answered; and what that leaves of the text. Assumes nothing.
 use Prim.Native.Nat.{ℕ, zero, suc, ◌+◌, ◌-◌, ◌≤◌}
 use native.Mathlib.Omega.{arith}
-use mathlib.Core.Path.{◌≡◌, refl, sym, ap, subst⁻¹, ◌∙◌}
-use mathlib.Core.Bool.{true, false, true≢false}
+use mathlib.Core.Path.{◌≡◌, refl, sym, subst⁻¹, ◌∙◌}
 use mathlib.Core.List.{List}
 use lib.ListN.{length, take, drop, length-drop}
 use lib.Seq.{length-take-le}
-use lib.IntN.{ℤ, pos, negsuc}
-use lib.Signed.{lt_z}
 use lib.Dec.{eqb}
 use borrow.Rule.Slice.PartMut.{put_mid, take_put}
-use borrow.Author.Tests.{eq-eqb, ne_eqb, ltb-true}
-use Rattle.io.specs.Counts.{clamp_len}
+use borrow.Author.Tests.{eq-eqb, ne_eqb}
+use Rattle.std.specs.Prelude.{min, Option, Some, None}
 use Rattle.feeding.specs.declared.Filled.{Filled}
 use Rattle.feeding.specs.Feeding.{filled_by, Fills}
-
--- ---- what it answered
-
-pub gave_none : (kept : ℕ) (got : ℤ) (room : ℕ) → lt_z got (pos 0) ≡ true → record { good = false; end = kept; last = true } ≡ filled_by kept got room
-unfolding filled_by
-gave_none kept (pos n) room h = absurd (omega (arith, ltb-true n 0 h))
-gave_none kept (negsuc n) room h = refl
-
-pub gave_some : (kept : ℕ) (got : ℤ) (room n : ℕ) → lt_z got (pos 0) ≡ false → n ≡ clamp_len got room
-    → record { good = true; end = kept + n; last = eqb n 0 } ≡ filled_by kept got room
-unfolding filled_by
-gave_some kept (pos k) room n h e = ap (λ (m : ℕ). record { good = true; end = kept + m; last = eqb m 0 }) e
-gave_some kept (negsuc k) room n h e = absurd (true≢false h)
 
 -- ---- what it leaves
 
@@ -39,23 +23,19 @@ pub longer : (kept n : ℕ) → eqb n 0 ≡ eqb (kept + n) kept
 longer kept zero = sym (eq-eqb (kept + 0) kept (omega arith))
 longer kept (suc n) = ne_eqb (suc n) 0 (λ e. omega (arith, e)) ∙ sym (ne_eqb (kept + suc n) kept (λ e. omega (arith, e)))
 
-counts : (got : ℤ) (room : ℕ) → clamp_len got room ≤ room
-counts (pos n) room = omega arith
-counts (negsuc n) room = omega arith
-
-fills_by : (kept : ℕ) (got : ℤ) (before behind : List ℕ) (room : ℕ) (r : Filled)
+fills_by : (kept : ℕ) (got : Option ℕ) (before behind : List ℕ) (room : ℕ) (r : Filled)
     → r ≡ filled_by kept got room
     → kept + room ≡ length before
     → take kept behind ≡ take kept before
     → Fills kept before behind r
 unfolding filled_by
-fills_by kept (pos n) before behind room r e long same = record {
+fills_by kept (Some n) before behind room r e long same = record {
   keeps = same;
   begins = subst⁻¹ (λ (f : Filled). kept ≤ f.end) e (omega arith);
-  within = subst⁻¹ (λ (f : Filled). f.end ≤ length before) e (omega (arith, long, counts (pos n) room));
-  ends = subst⁻¹ (λ (f : Filled). f.last ≡ eqb f.end kept) e (longer kept (clamp_len (pos n) room));
+  within = subst⁻¹ (λ (f : Filled). f.end ≤ length before) e (omega (arith, long));
+  ends = subst⁻¹ (λ (f : Filled). f.last ≡ eqb f.end kept) e (longer kept (min n room));
 }
-fills_by kept (negsuc n) before behind room r e long same = record {
+fills_by kept None before behind room r e long same = record {
   keeps = same;
   begins = subst⁻¹ (λ (f : Filled). kept ≤ f.end) e (omega arith);
   within = subst⁻¹ (λ (f : Filled). f.end ≤ length before) e (omega (arith, long));
@@ -63,7 +43,7 @@ fills_by kept (negsuc n) before behind room r e long same = record {
 }
 
 -- what was read stands behind what was kept, in all the room there is
-pub fills : (kept : ℕ) (got : ℤ) (before new : List ℕ) (r : Filled)
+pub fills : (kept : ℕ) (got : Option ℕ) (before new : List ℕ) (r : Filled)
     → kept ≤ length before
     → length (put_mid kept (length before - kept) before new) ≡ length before
     → r ≡ filled_by kept got (length (take (length (put_mid kept (length before - kept) before new) - kept) (drop kept (put_mid kept (length before - kept) before new))))

@@ -1,7 +1,6 @@
 -- A script fed piece by piece ("01, The script and one whole run"): what one reading gives, and what answering it leaves. What stands in a
 -- file no definition can say; what is done with what was read, these do. Assumes nothing.
-use Rattle.std.specs.Prelude.{ℕ, zero, suc, ◌+◌, ◌≤◌, ◌≡◌, Bool, true, false, not, ◌&&◌, List, [], ◌∷◌, ◌++◌, length, take, drop, ℤ, pos, negsuc, eqb}
-use Rattle.io.specs.Counts.{clamp_len}
+use Rattle.std.specs.Prelude.{ℕ, zero, suc, ◌+◌, ◌≤◌, ◌≡◌, Bool, true, false, not, ◌&&◌, List, [], ◌∷◌, ◌++◌, length, take, drop, min, Option, Some, None, eqb}
 use Rattle.kind.specs.Areas.{Areas}
 use Rattle.reply.specs.Reply.{longest as longestAnswer}
 use Rattle.script.specs.Script.{Carried, carried, output, Portion, run_rule}
@@ -12,9 +11,9 @@ use Rattle.feeding.specs.declared.Fed.{Fed}
 
 -- what a reading that answered `got` gave, into so much room behind the bytes kept: where it could be had, the text is longer by what was
 -- counted, and no more comes exactly where nothing came
-unfoldable pub filled_by : ℕ → ℤ → ℕ → Filled
-filled_by kept (pos n) room = record { good = true; end = kept + clamp_len (pos n) room; last = eqb (clamp_len (pos n) room) 0 }
-filled_by kept (negsuc n) room = record { good = false; end = kept; last = true }
+unfoldable pub filled_by : ℕ → Option ℕ → ℕ → Filled
+filled_by kept (Some n) room = record { good = true; end = kept + min n room; last = eqb (min n room) 0 }
+filled_by kept None room = record { good = false; end = kept; last = true }
 
 -- what a reading leaves, whatever it answered: what was kept stands where it stood, the text ends inside its buffer, and no more comes exactly
 -- where nothing came

@@ -1,6 +1,8 @@
-// Feeds a script from one open file to the store, and its answers to another, as they come ("01, The script and one whole run"). It holds no
+// Feeds a script from a reader to the store, and its answers to a writer, as they come ("01, The script and one whole run"). It holds no
 // rule: which call a line is, what it does and what it answers is `script`'s.
-ghost use Rattle.std.specs.Prelude.{◌≡◌, true, ◌++◌, ◌+◌, ◌-◌, ◌^◌, ◌≤◌, ◌<◌, length, take, drop};
+#![tactic(auto)]
+
+ghost use Rattle.std.specs.Prelude.{◌≡◌, true, ◌++◌, ◌+◌, ◌-◌, ◌^◌, ◌≤◌, ◌<◌, length, take, drop, MatchResult, Some, None};
 ghost use Rattle.kind.specs.Areas.{areas};
 ghost use Rattle.line.specs.Line.{longest as longestLine};
 ghost use Rattle.reply.specs.Reply.{longest as longestAnswer};
@@ -8,6 +10,8 @@ ghost use Rattle.script.specs.Script.{carried};
 ghost use Rattle.feeding.specs.Feeding.{filled_by, Fills, stand, Serves, Rounds};
 
 use script::Footing;
+use std::io;
+use std::io::{Eprint, Read, Write};
 
 // What is carried from one reading to the next: the script's footing, how much text that was not taken stands at the front of the buffer, and
 // whether to go on.
@@ -38,17 +42,33 @@ fn keep_rest(text: &mut [u8], from: usize, to: usize)
     }
 }
 
-// Writes answers, and says so where it cannot.
-fn say(answers: &[u8], output: i32) -> bool {
-    let said = io::write_all(output, answers);
-    if !said {
-        os::fail(b"chirimok: the answers");
+// What a reading or a writing came to; one that failed is named on standard error, with the system's reason.
+fn told<T: Drop>(errors: &impl Eprint, what: &str, done: io::Result<T>) -> Option<T>
+    ensures { MatchResult done (λ got. result ≡ Some got) (λ _. result ≡ None) }
+{
+    match done {
+        Ok(got) => Some(got),
+        Err(e) => {
+            let _named = eprintln!(errors; "chirimok: {what}: {e}");
+            None
+        }
     }
-    said
+}
+
+// Writes answers, to the last.
+fn write_out<W: Write>(answers: &[u8], output: &mut W) -> io::Result<()> {
+    output.write_all(answers)?;
+    output.flush()
+}
+
+// Writes answers, and says so where it cannot.
+fn say<W: Write>(errors: &impl Eprint, answers: &[u8], output: &mut W) -> bool {
+    told(errors, "the answers", write_out(answers, output)).is_some()
 }
 
 // Answers every line of a text that is whole, and writes each answer. What comes back as kept was not taken.
-fn serve(
+fn serve<W: Write>(
+    errors: &impl Eprint,
     data: &mut [u8],
     undo: &mut [u8],
     status: &mut [u8],
@@ -56,7 +76,7 @@ fn serve(
     text: &[u8],
     last: bool,
     out: &mut [u8],
-    output: i32,
+    output: &mut W,
 ) -> Fed
     requires { longestAnswer ≤ length out.old }
     ensures { Serves last (length out.old) (stand (carried footing (areas «data».old undo.old status.old)) text.now) result (areas «data».new undo.new status.new) }
@@ -68,7 +88,7 @@ fn serve(
         s = r.footing;
         let made = r.made;
         let taken = r.taken;
-        let said = say(&out[..made], output);
+        let said = say(errors, &out[..made], output);
         at += taken;
         if !said | (taken == 0) {
             return Fed {
@@ -85,37 +105,41 @@ fn serve(
     }
 }
 
-// What a reading gave that answered `got`, into the room behind what was kept.
-fn gave(kept: usize, got: isize, room: &[u8]) -> Filled
+// What a reading gave that answered `got`, into the room behind what was kept. One that failed answers nothing.
+fn gave(kept: usize, got: Option<usize>, room: &[u8]) -> Filled
     requires { kept + length room.now < 2 ^ 64 }
     ensures { result ≡ filled_by kept got (length room.now) }
 {
-    if got < 0 {
-        return Filled {
+    match got {
+        Some(got) => {
+            let n = got.min(room.len());
+            Filled {
+                good: true,
+                end: kept + n,
+                last: n == 0,
+            }
+        }
+        None => Filled {
             good: false,
             end: kept,
             last: true,
-        };
-    }
-    let n = io::count(got, room);
-    Filled {
-        good: true,
-        end: kept + n,
-        last: n == 0,
+        },
     }
 }
 
 // Reads once, behind what was kept, and answers how much text there is then, and whether that was all.
-fn fill(text: &mut [u8], kept: usize, input: i32) -> Filled
+fn fill<R: Read>(errors: &impl Eprint, text: &mut [u8], kept: usize, input: &mut R) -> Filled
     requires { kept < length text.old }
     ensures { Fills kept text.old text.new result }
 {
-    let got = libc::read(input, &mut text[kept..]);
+    let read = input.read(&mut text[kept..]);
+    let got = told(errors, "the script", read);
     gave(kept, got, &text[kept..])
 }
 
 // Reads once, and answers what is there.
-fn round(
+fn round<R: Read, W: Write>(
+    errors: &impl Eprint,
     data: &mut [u8],
     undo: &mut [u8],
     status: &mut [u8],
@@ -123,16 +147,15 @@ fn round(
     text: &mut [u8],
     kept: usize,
     out: &mut [u8],
-    input: i32,
-    output: i32,
+    input: &mut R,
+    output: &mut W,
 ) -> Fed
     requires { (kept < length text.old) × (longestLine < length text.old) × (longestAnswer ≤ length out.old) }
     ensures rounds { Rounds (carried footing (areas «data».old undo.old status.old)) kept text.old (length out.old) result (areas «data».new undo.new status.new) text.new }
     ensures kept_le_longest_line { result.more ≡ true → result.kept ≤ longestLine }
 {
-    let filled = fill(text, kept, input);
+    let filled = fill(errors, text, kept, input);
     if !filled.good {
-        os::fail(b"chirimok: the script");
         return Fed {
             footing,
             kept,
@@ -141,6 +164,7 @@ fn round(
     }
     let end = filled.end;
     let f = serve(
+        errors,
         data,
         undo,
         status,
@@ -155,18 +179,18 @@ fn round(
 }
 
 // Runs the script of `input` to its end. A person at a terminal has the answer to each line before the next is read. A proved loop has to
-// end, and nothing says that an input does: so it counts its readings down, from a number that no run uses up.
-pub fn feed(input: i32, output: i32) {
+// end, and nothing says that an input does: so it counts its readings, to a number that no run uses up.
+pub fn feed<R: Read, W: Write>(errors: &impl Eprint, input: &mut R, output: &mut W) {
     let mut data = [0u8; 24576];
     let mut undo = [0u8; 24576];
     let mut status = [0u8; 8192];
-    let mut text = io::large_buffer();
-    let mut out = io::large_buffer();
+    let mut text = [0u8; 65536];
+    let mut out = [0u8; 65536];
     let mut s = Footing::fresh();
     let mut kept = 0;
-    let mut left = u64::MAX;
-    while left > 0 {
+    for _ in 0..u64::MAX {
         let f = round(
+            errors,
             &mut data,
             &mut undo,
             &mut status,
@@ -182,6 +206,5 @@ pub fn feed(input: i32, output: i32) {
         }
         s = f.footing;
         kept = f.kept;
-        left -= 1;
     }
 }

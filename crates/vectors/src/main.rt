@@ -1,10 +1,13 @@
 // Writes the examples of CRC32C that RFC 3720, B.4 publishes: a line for each, of its name, a tab, and the checksum of its
 // bytes as the RFC prints it ("01, The page": "Check CRC32C against RFC 3720's published examples"). Each is worked by itself and abreast
 // with others, at once and in two parts, whose lengths are no multiples of four (02, T-02: "Every value stays the same").
+#![tactic(auto)]
+
 ghost use Rattle.std.specs.Prelude.{◌≡◌, [], ◌∷◌, ◌/◌, ◌%◌, ◌≤◌, length};
 ghost use Rattle.crc.specs.Abreast.{OneLength};
 
 use crc::Four;
+use std::io;
 
 // The bytes of a checksum as the RFC prints them, the least significant first.
 fn printed(c: u32) -> [u8; 4]
@@ -19,79 +22,88 @@ fn printed(c: u32) -> [u8; 4]
 }
 
 // Writes a byte after what stands before it.
-fn write_byte(before: &[u8], b: u8) {
-    io::write_all(1, before);
-    io::print_hex(1, b as u64, 2);
+fn write_byte(rt: &impl Print, before: &str, b: u8) -> io::Result<()> {
+    print!(rt; "{before}{b:02x}")
 }
 
 // Writes a line: an example's name, how it was worked, and its checksum.
-fn write_line(name: &[u8], how: &[u8], c: u32) {
+fn write_line(rt: &impl Print, name: &str, how: &str, c: u32) -> io::Result<()> {
     let b = printed(c);
-    io::write_all(1, name);
-    io::write_all(1, how);
-    write_byte(b"\t", b[0]);
-    write_byte(b" ", b[1]);
-    write_byte(b" ", b[2]);
-    write_byte(b" ", b[3]);
-    io::write_all(1, b"\n");
+    print!(rt; "{name}{how}")?;
+    write_byte(rt, "\t", b[0])?;
+    write_byte(rt, " ", b[1])?;
+    write_byte(rt, " ", b[2])?;
+    write_byte(rt, " ", b[3])?;
+    println!(rt)
 }
 
 // Writes an example by itself.
-fn write_alone(name: &[u8], s: &[u8])
+fn write_alone(rt: &impl Print, name: &str, s: &[u8]) -> io::Result<()>
     requires { 5 ≤ length s.now }
 {
-    write_line(name, b"", crc::crc32c(s));
+    write_line(rt, name, "", crc::crc32c(s))?;
     let c = crc::crc32c(&s[0..5]);
     write_line(
+        rt,
         name,
-        b", as 5 bytes and the rest",
+        ", as 5 bytes and the rest",
         crc::crc32c_more(c, &s[5..]),
-    );
+    )
 }
 
 // Writes an example abreast with itself.
-fn write_same(name: &[u8], s: &[u8]) {
+fn write_same(rt: &impl Print, name: &str, s: &[u8]) -> io::Result<()> {
     let sums = crc::crc32c_four(s, s, s, s);
-    write_line(name, b", abreast, first of four", sums.first);
-    write_line(name, b", abreast, second", sums.second);
-    write_line(name, b", abreast, third", sums.third);
-    write_line(name, b", abreast, fourth", sums.fourth);
+    write_line(rt, name, ", abreast, first of four", sums.first)?;
+    write_line(rt, name, ", abreast, second", sums.second)?;
+    write_line(rt, name, ", abreast, third", sums.third)?;
+    write_line(rt, name, ", abreast, fourth", sums.fourth)
 }
 
 // Writes the four checksums of the RFC's examples of 32 bytes.
-fn write_four(how: &[u8], sums: Four) {
-    write_line(b"32 bytes of zeroes", how, sums.first);
-    write_line(b"32 bytes of ones", how, sums.second);
-    write_line(b"32 bytes of incrementing 00..1f", how, sums.third);
-    write_line(b"32 bytes of decrementing 1f..00", how, sums.fourth);
+fn write_four(rt: &impl Print, how: &str, sums: Four) -> io::Result<()> {
+    write_line(rt, "32 bytes of zeroes", how, sums.first)?;
+    write_line(rt, "32 bytes of ones", how, sums.second)?;
+    write_line(rt, "32 bytes of incrementing 00..1f", how, sums.third)?;
+    write_line(rt, "32 bytes of decrementing 1f..00", how, sums.fourth)
 }
 
 // Writes those examples abreast.
-fn write_abreast<'a>(zeros: &'a [u8], ones: &'a [u8], rising: &'a [u8], falling: &'a [u8])
+fn write_abreast<'a>(
+    rt: &impl Print,
+    zeros: &'a [u8],
+    ones: &'a [u8],
+    rising: &'a [u8],
+    falling: &'a [u8],
+) -> io::Result<()>
     requires { OneLength zeros.now ones.now rising.now falling.now × (5 ≤ length zeros.now) }
 {
-    write_four(b", abreast", crc::crc32c_four(zeros, ones, rising, falling));
+    write_four(
+        rt,
+        ", abreast",
+        crc::crc32c_four(zeros, ones, rising, falling),
+    )?;
     let c = crc::crc32c_four(&zeros[0..5], &ones[0..5], &rising[0..5], &falling[0..5]);
     let sums = crc::crc32c_four_more(c, &zeros[5..], &ones[5..], &rising[5..], &falling[5..]);
-    write_four(b", abreast, as 5 bytes and the rest", sums);
+    write_four(rt, ", abreast, as 5 bytes and the rest", sums)
 }
 
 // The examples, each under the RFC's own name for it.
-fn main() {
+fn main(rt: HostRuntime) -> io::Result<()> {
     let zeros = [0; 32];
     let ones = [0xFF; 32];
     let rising = b"\x00\x01\x02\x03\x04\x05\x06\x07\x08\x09\x0a\x0b\x0c\x0d\x0e\x0f\
                    \x10\x11\x12\x13\x14\x15\x16\x17\x18\x19\x1a\x1b\x1c\x1d\x1e\x1f";
     let falling = b"\x1f\x1e\x1d\x1c\x1b\x1a\x19\x18\x17\x16\x15\x14\x13\x12\x11\x10\
                     \x0f\x0e\x0d\x0c\x0b\x0a\x09\x08\x07\x06\x05\x04\x03\x02\x01\x00";
-    write_alone(b"32 bytes of zeroes", &zeros);
-    write_alone(b"32 bytes of ones", &ones);
-    write_alone(b"32 bytes of incrementing 00..1f", rising);
-    write_alone(b"32 bytes of decrementing 1f..00", falling);
+    write_alone(&rt, "32 bytes of zeroes", &zeros)?;
+    write_alone(&rt, "32 bytes of ones", &ones)?;
+    write_alone(&rt, "32 bytes of incrementing 00..1f", rising)?;
+    write_alone(&rt, "32 bytes of decrementing 1f..00", falling)?;
     let command = b"\x01\xc0\x00\x00\x00\x00\x00\x00\x00\x00\x00\x00\x00\x00\x00\x00\
                     \x14\x00\x00\x00\x00\x00\x04\x00\x00\x00\x00\x14\x00\x00\x00\x18\
                     \x28\x00\x00\x00\x00\x00\x00\x00\x02\x00\x00\x00\x00\x00\x00\x00";
-    write_alone(b"An iSCSI - SCSI Read (10) Command PDU", command);
-    write_same(b"An iSCSI - SCSI Read (10) Command PDU", command);
-    write_abreast(&zeros, &ones, rising, falling);
+    write_alone(&rt, "An iSCSI - SCSI Read (10) Command PDU", command)?;
+    write_same(&rt, "An iSCSI - SCSI Read (10) Command PDU", command)?;
+    write_abreast(&rt, &zeros, &ones, rising, falling)
 }
