@@ -6,7 +6,7 @@ use mathlib.Core.Path.{◌≡◌, refl, sym, ap, ◌∙◌}
 use mathlib.Core.Bool.{Bool, true, false}
 use mathlib.Core.List.{List, [], ◌∷◌, ◌++◌, append-nil, append_assoc}
 use lib.ListN.{drop}
-use Rattle.reply.specs.Reply.{longest as longestAnswer}
+use Rattle.reply.specs.Reply.{longest as longest_answer}
 use Rattle.script.specs.Script.{output}
 use Rattle.script.proofs.Promises.{run_carries, run_ends, run_done}
 use Rattle.feeding.specs.Feeding.{Stand, stand, run_of, after, said, after_round, said_in, read_all, said_all, WholeOutput}
@@ -35,7 +35,7 @@ runs_end room s (suc n) =
     ∙ sym (append_assoc (said true room s n) (run_of true room a).said (output (run_of true room a).on (drop (run_of true room a).taken a.left)))
 
 -- a run that took nothing is the last
-runs_all : (room : ℕ) (s : Stand) (n : ℕ) → longestAnswer ≤ room → (run_of true room (after true room s n)).taken ≡ 0
+runs_all : (room : ℕ) (s : Stand) (n : ℕ) → longest_answer ≤ room → (run_of true room (after true room s n)).taken ≡ 0
     → output s.on s.left ≡ said true room s (suc n)
 unfolding after
 runs_all room s n roomy none =

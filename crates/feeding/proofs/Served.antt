@@ -11,8 +11,8 @@ use lib.Dec.{eqb}
 use borrow.Author.Tests.{eqb-true}
 use Rattle.ground.proofs.Ranges.{lt_or_le}
 use Rattle.kind.specs.Areas.{Areas}
-use Rattle.line.specs.Line.{longest as longestLine}
-use Rattle.reply.specs.Reply.{longest as longestAnswer}
+use Rattle.line.specs.Line.{longest as longest_line}
+use Rattle.reply.specs.Reply.{longest as longest_answer}
 use Rattle.script.specs.declared.Footing.{Footing}
 use Rattle.script.specs.declared.Ran.{Ran}
 use Rattle.script.specs.Script.{Carried, carried, Portion, run_rule, Yields}
@@ -112,7 +112,7 @@ pub after_short : (last : Bool) (room : ℕ) (s : Stand) (n : ℕ) → length (a
 after_short last room s n = let e = after_end last room s n in omega (arith, ap length e.1, length-drop e.0 s.left)
 
 -- where more is to be read, what is left is no longer than a line may be: so there is room behind it
-pub answers_short : (last : Bool) (room : ℕ) (s : Stand) (f : Fed) (left : Areas) → Serves last room s f left → longestAnswer ≤ room → f.more ≡ true → f.kept ≤ longestLine
+pub answers_short : (last : Bool) (room : ℕ) (s : Stand) (f : Fed) (left : Areas) → Serves last room s f left → longest_answer ≤ room → f.more ≡ true → f.kept ≤ longest_line
 unfolding after
 answers_short last room s f left a roomy more = by (a.all (yes a.written (sym a.more ∙ more)))
   where
@@ -120,11 +120,11 @@ answers_short last room s f left a roomy more = by (a.all (yes a.written (sym a.
     yes true h = refl
     yes false h = h
 
-    by : (n : ℕ) × (a.runs ≡ suc n) × ((run_of last room (after last room s n)).taken ≡ 0) → f.kept ≤ longestLine
+    by : (n : ℕ) × (a.runs ≡ suc n) × ((run_of last room (after last room s n)).taken ≡ 0) → f.kept ≤ longest_line
     by (n, is, none) =
         ⊎_elim
-        (λ (h : longestLine < length (after last room s n).left).
+        (λ (h : longest_line < length (after last room s n).left).
         absurd (omega (arith, none, run_goes_on_long (after last room s n).on (after last room s n).left last room roomy h)))
-        (λ (h : length (after last room s n).left ≤ longestLine).
+        (λ (h : length (after last room s n).left ≤ longest_line).
         omega (arith, a.keeps, ap (λ (m : ℕ). length (after last room s m).left) is, ap (λ (m : ℕ). length (drop m (after last room s n).left)) none, h))
-        (lt_or_le longestLine (length (after last room s n).left))
+        (lt_or_le longest_line (length (after last room s n).left))

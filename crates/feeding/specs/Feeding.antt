@@ -2,7 +2,7 @@
 -- file no definition can say; what is done with what was read, these do. Assumes nothing.
 use Rattle.std.specs.Prelude.{ℕ, zero, suc, ◌+◌, ◌≤◌, ◌≡◌, Bool, true, false, not, ◌&&◌, List, [], ◌∷◌, ◌++◌, length, take, drop, min, Option, Some, None, eqb}
 use Rattle.kind.specs.Areas.{Areas}
-use Rattle.reply.specs.Reply.{longest as longestAnswer}
+use Rattle.reply.specs.Reply.{longest as longest_answer}
 use Rattle.script.specs.Script.{Carried, carried, output, Portion, run_rule}
 use Rattle.feeding.specs.declared.Filled.{Filled}
 use Rattle.feeding.specs.declared.Fed.{Fed}
@@ -102,6 +102,6 @@ ToTheEnd room k kept (p ∷ p₁ ∷ ps) =
 abbrev pub WholeOutput : Type 0
 WholeOutput =
     (room : ℕ) (k : Carried) (kept : List ℕ) (ps : List Piece)
-    → longestAnswer ≤ room
+    → longest_answer ≤ room
     → ToTheEnd room k kept ps
     → said_all room k kept ps ≡ output k (kept ++ read_all ps)

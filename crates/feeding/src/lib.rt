@@ -4,8 +4,8 @@
 
 ghost use Rattle.std.specs.Prelude.{◌≡◌, true, ◌++◌, ◌+◌, ◌-◌, ◌^◌, ◌≤◌, ◌<◌, length, take, drop, MatchResult, Some, None};
 ghost use Rattle.kind.specs.Areas.{areas};
-ghost use Rattle.line.specs.Line.{longest as longestLine};
-ghost use Rattle.reply.specs.Reply.{longest as longestAnswer};
+ghost use Rattle.line.specs.Line.{longest as longest_line};
+ghost use Rattle.reply.specs.Reply.{longest as longest_answer};
 ghost use Rattle.script.specs.Script.{carried};
 ghost use Rattle.feeding.specs.Feeding.{filled_by, Fills, stand, Serves, Rounds};
 
@@ -78,7 +78,7 @@ fn serve<W: Write>(
     out: &mut [u8],
     output: &mut W,
 ) -> Fed
-    requires { longestAnswer ≤ length out.old }
+    requires { longest_answer ≤ length out.old }
     ensures { Serves last (length out.old) (stand (carried footing (areas «data».old undo.old status.old)) text.now) result (areas «data».new undo.new status.new) }
 {
     let mut s = footing;
@@ -150,9 +150,9 @@ fn round<R: Read, W: Write>(
     input: &mut R,
     output: &mut W,
 ) -> Fed
-    requires { (kept < length text.old) × (longestLine < length text.old) × (longestAnswer ≤ length out.old) }
+    requires { (kept < length text.old) × (longest_line < length text.old) × (longest_answer ≤ length out.old) }
     ensures rounds { Rounds (carried footing (areas «data».old undo.old status.old)) kept text.old (length out.old) result (areas «data».new undo.new status.new) text.new }
-    ensures kept_le_longest_line { result.more ≡ true → result.kept ≤ longestLine }
+    ensures kept_le_longest_line { result.more ≡ true → result.kept ≤ longest_line }
 {
     let filled = fill(errors, text, kept, input);
     if !filled.good {

@@ -16,4 +16,4 @@ tallied k due s = tallied_to k due (pages s) s
 
 -- the two areas that the sweep writes, each with its flags
 abbrev pub tallied_both : List ℕ → List ℕ → List ℕ → List ℕ → Both
-tallied_both dataDue d undoDue u = both (tallied data_kind dataDue d) (tallied undo_kind undoDue u)
+tallied_both data_due d undo_due u = both (tallied data_kind data_due d) (tallied undo_kind undo_due u)

@@ -34,8 +34,8 @@ use Rattle.sweeping.proofs.Promises.{sweep_refused_leaves}
 use Rattle.line.specs.declared.Verb.{Verb}
 use Rattle.line.specs.declared.Verb.TheVariants.{Format, Open, Seal, Begin, Next, Insert, Update, Delete, Read, Commit, Withdraw, Sweep, IllFormed}
 use Rattle.line.specs.declared.Command.{Command}
-use Rattle.line.specs.Line.{command_of, command_in as said_in, ill, fields, longest as longestLine}
-use Rattle.reply.specs.Reply.{longest as longestAnswer}
+use Rattle.line.specs.Line.{command_of, command_in as said_in, ill, fields, longest as longest_line}
+use Rattle.reply.specs.Reply.{longest as longest_answer}
 use Rattle.calls.specs.Calls.{Left}
 use Rattle.playing.specs.Playing.{line_of, played_by, play_rule}
 use Rattle.playing.proofs.Lengths.{answer_most}
@@ -67,12 +67,12 @@ abbrev too_long : Carried → Carried
 too_long k = carried (in_line true k.footing) k.lent
 
 -- whatever comes behind more than 128 bytes, they say no call
-command_long : (k : Carried) (l : List ℕ) → longestLine < length l → command_in k l ≡ ill
+command_long : (k : Carried) (l : List ℕ) → longest_line < length l → command_in k l ≡ ill
 unfolding command_of
 command_long k l h = by k.footing.long
   where
     none : command_of l ≡ ill
-    none = ap (λ (t : Bool). cond t ill (said_in (fields l))) (lt-ltb longestLine (length l) h)
+    none = ap (λ (t : Bool). cond t ill (said_in (fields l))) (lt-ltb longest_line (length l) h)
 
     by : (b : Bool) → cond b ill (command_of l) ≡ ill
     by true = refl
@@ -87,7 +87,7 @@ step_long : (k : Carried) → stepped k ill ≡ stepped (too_long k) ill
 unfolding stepped left_in data_lent undo_lent
 step_long k = refl
 
-answers_long : (k : Carried) (s l : List ℕ) (ls : List (List ℕ)) → longestLine < length s
+answers_long : (k : Carried) (s l : List ℕ) (ls : List (List ℕ)) → longest_line < length s
     → answers k ((s ++ l) ∷ ls) ≡ answers (too_long k) (l ∷ ls)
 unfolding answers
 answers_long k s l [] h =
@@ -101,7 +101,7 @@ answers_long k s l (m ∷ ls) h =
     ∙ ap (λ (l : Left). line_of IllFormed l ++ answers (stepped k ill) (m ∷ ls)) (left_long k)
     ∙ ap (λ (q : Carried). line_in (too_long k) ill ++ answers q (m ∷ ls)) (step_long k)
 
-output_long : (k : Carried) (s more : List ℕ) → lacks 10 s ≡ true → longestLine < length s → output k (s ++ more) ≡ output (too_long k) more
+output_long : (k : Carried) (s more : List ℕ) → lacks 10 s ≡ true → longest_line < length s → output k (s ++ more) ≡ output (too_long k) more
 output_long k s more lone h =
     ap (answers k) (parts_glued 10 s more lone)
     ∙ answers_long k s (before 10 more) (cond (ltb (length (before 10 more)) (length more)) (parts 10 (drop (length (before 10 more) + 1) more)) []) h
@@ -123,13 +123,13 @@ lacks_rest s e = ap (lacks 10) (sym (before_whole 10 s e)) ∙ lacks_before 10 s
 -- more comes: it waits, or it is too long already
 rest_more : (more : List ℕ) → Rested false more
 unfolding rest_of
-rest_more more k s e = by (leb (length s) longestLine) refl
+rest_more more k s e = by (leb (length s) longest_line) refl
   where
-    by : (t : Bool) → leb (length s) longestLine ≡ t
+    by : (t : Bool) → leb (length s) longest_line ≡ t
         → Rest k s more (cond t ([], 0, k.footing) ([], length s, in_line true k.footing))
     by true h = refl
     by false h =
-        output_long k s more (lacks_rest s e) (leb-false (length s) longestLine h)
+        output_long k s more (lacks_rest s e) (leb-false (length s) longest_line h)
         ∙ ap (λ (l : List ℕ). output (too_long k) (l ++ more)) (sym (drop-length s))
 
 -- no more comes: it is an unended line, or there is none
@@ -263,7 +263,7 @@ run_ends k text room =
     w = run_rule k text true room
 
 -- a run goes on: where there is room for an answer and the text has a newline, some of it is done with
-pub run_goes_on : (k : Carried) (text : List ℕ) (last : Bool) (room : ℕ) → longestAnswer ≤ room → lacks 10 text ≡ false
+pub run_goes_on : (k : Carried) (text : List ℕ) (last : Bool) (room : ℕ) → longest_answer ≤ room → lacks 10 text ≡ false
     → 1 ≤ (run_rule k text last room).taken
 unfolding run_rule lined
 run_goes_on k text last room h some =
@@ -283,7 +283,7 @@ run_goes_on k text last room h some =
         (lt_or_le (length (before 10 text)) (length text))
 
 -- and where it is longer than a line may be, too
-pub run_goes_on_long : (k : Carried) (text : List ℕ) (last : Bool) (room : ℕ) → longestAnswer ≤ room → longestLine < length text
+pub run_goes_on_long : (k : Carried) (text : List ℕ) (last : Bool) (room : ℕ) → longest_answer ≤ room → longest_line < length text
     → 1 ≤ (run_rule k text last room).taken
 unfolding run_rule rested rest_of
 run_goes_on_long k text last room h long = by (lacks 10 text) refl
@@ -296,7 +296,7 @@ run_goes_on_long k text last room h long = by (lacks 10 text) refl
 
     taken : (b : Bool) → length text ≡ (rest_of b k.footing (length text)).1
     taken true = rw (ne_eqb (length text) 0 some) refl
-    taken false = rw (lt-leb (length text) longestLine long) refl
+    taken false = rw (lt-leb (length text) longest_line long) refl
 
     by : (t : Bool) → lacks 10 text ≡ t → 1 ≤ (run_rule k text last room).taken
     by true e =
@@ -328,7 +328,7 @@ rest_done k [] none =
     ∙ ap (λ (b : Bool). cond (not b) [] sixteen) (end_of k.footing 0).1
 rest_done k (b ∷ text) none = absurd (omega (arith, none, (end_of k.footing (length (b ∷ text))).0))
 
-pub run_done : (k : Carried) (text : List ℕ) (room : ℕ) → longestAnswer ≤ room → (run_rule k text true room).taken ≡ 0
+pub run_done : (k : Carried) (text : List ℕ) (room : ℕ) → longest_answer ≤ room → (run_rule k text true room).taken ≡ 0
     → output (run_rule k text true room).on (drop (run_rule k text true room).taken text) ≡ []
 unfolding run_rule
 run_done k text room h none = by (lacks 10 text) refl
@@ -346,7 +346,7 @@ run_done k text room h none = by (lacks 10 text) refl
     by false e = absurd (omega (arith, none, run_goes_on k text true room h e))
 
 -- no answer is longer than 88 bytes
-line_fits : (k : Carried) (c : Command) → length (line_in k c) ≤ longestAnswer
+line_fits : (k : Carried) (c : Command) → length (line_in k c) ≤ longest_answer
 unfolding left_in
 line_fits k c = answer_most (lent_to k c) k.footing.desk c
 
@@ -369,9 +369,9 @@ module _ (room : ℕ) where
       (ap (run_lines room true r) (parts_ended 10 s h) ∙ run_next room true r (before 10 s) 10 (drop (length (before 10 s) + 1) s) e)
       (omega (arith, ih.0, h, length-drop (length (before 10 s) + 1) s), ih.1)
 
-  whole : (n : ℕ) (r : Portion) (s : List ℕ) → length s < n → length r.said + longestAnswer * (length s + 1) ≤ room
+  whole : (n : ℕ) (r : Portion) (s : List ℕ) → length s < n → length r.said + longest_answer * (length s + 1) ≤ room
       → Whole r (run_lines room true r (parts 10 s)) s
-  unfolding longestAnswer lined
+  unfolding longest_answer lined
   whole zero r s h enough = absurd (omega (arith, h))
   whole (suc n) r s h enough =
       by (whole n (lined r (before 10 s)) (drop (length (before 10 s) + 1) s))
@@ -380,7 +380,7 @@ module _ (room : ℕ) where
       free = full_no room r (omega (arith, enough))
 
       by : (length (drop (length (before 10 s) + 1) s) < n
-          → length (lined r (before 10 s)).said + longestAnswer * (length (drop (length (before 10 s) + 1) s) + 1) ≤ room
+          → length (lined r (before 10 s)).said + longest_answer * (length (drop (length (before 10 s) + 1) s) + 1) ≤ room
           → Whole (lined r (before 10 s)) (run_lines room true (lined r (before 10 s)) (parts 10 (drop (length (before 10 s) + 1) s))) (drop (length (before 10 s) + 1) s))
           → Whole r (run_lines room true r (parts 10 s)) s
       by ih =
@@ -393,7 +393,7 @@ module _ (room : ℕ) where
           (lt_or_le (length (before 10 s)) (length s))
 
   -- "left of the arrow the input, right of it the whole output"
-  pub run_whole : (k : Carried) (text : List ℕ) → longestAnswer * (length text + 1) ≤ room
+  pub run_whole : (k : Carried) (text : List ℕ) → longest_answer * (length text + 1) ≤ room
       → ((run_rule k text true room).said ≡ output k text) × ((run_rule k text true room).taken ≡ length text)
   unfolding run_rule answers parts
   run_whole k text enough = (

@@ -11,9 +11,9 @@ use Rattle.lines.specs.Span.{parts}
 use Rattle.line.specs.declared.Verb.{Verb}
 use Rattle.line.specs.declared.Verb.TheVariants.{Format, Open, Seal, Begin, Next, Insert, Update, Delete, Read, Commit, Withdraw, Sweep, IllFormed}
 use Rattle.line.specs.declared.Command.{Command}
-use Rattle.line.specs.Line.{command_of, ill, longest as longestLine}
+use Rattle.line.specs.Line.{command_of, ill, longest as longest_line}
 use Rattle.lines.specs.declared.Line.{Line}
-use Rattle.reply.specs.Reply.{answer_line, longest as longestAnswer}
+use Rattle.reply.specs.Reply.{answer_line, longest as longest_answer}
 use Rattle.rows.specs.Rows.{refused_desk}
 use Rattle.calls.specs.Calls.{Left}
 use Rattle.playing.specs.Playing.{play_rule, line_of}
@@ -168,7 +168,7 @@ unfoldable pub rest_of : Bool → Footing → ℕ → List ℕ × ℕ × Footing
 rest_of last s n =
     cond last
     (cond (eqb n 0 && not s.long) ([], 0, s) (sixteen, n, in_line false s))
-    (cond (leb n longestLine) ([], 0, s) ([], n, in_line true s))
+    (cond (leb n longest_line) ([], 0, s) ([], n, in_line true s))
 
 unfoldable pub rested : Bool → Portion → List ℕ → Portion
 rested last r l =
@@ -184,7 +184,7 @@ pub record Rests (s : Footing) (at n : ℕ) (last : Bool) (made : ℕ) (buffer :
 
 -- no room for one more answer
 abbrev pub full : ℕ → Portion → Bool
-full room r = ltb room (length r.said + longestAnswer)
+full room r = ltb room (length r.said + longest_answer)
 
 unfoldable pub run_lines : ℕ → Bool → Portion → List (List ℕ) → Portion
 run_lines room last r [] = r
@@ -206,7 +206,7 @@ pub record Yields (w : Portion) (buffer : List ℕ) (r : Ran) (left : Areas) (be
 
 -- whether a buffer of so many bytes has room for an answer behind those written
 abbrev pub room_for : ℕ → ℕ → Bool
-room_for room made = leb longestAnswer (room - made)
+room_for room made = leb longest_answer (room - made)
 
 -- a run at its start
 unfoldable pub begun : Footing → ℕ → Going

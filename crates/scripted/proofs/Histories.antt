@@ -17,7 +17,7 @@ use Rattle.machine.specs.Table.{Body}
 use Rattle.machine.specs.Lines.{Call, format, is_done}
 use Rattle.history.specs.World.{World, answered, step, after, after_all}
 use Rattle.history.specs.Asked.{AllProper}
-use Rattle.history.specs.Since.{accepted as acceptedIn, formats as formatsIn, Since}
+use Rattle.history.specs.Since.{accepted as accepted_in, formats as formats_in, Since}
 use Rattle.history.proofs.Since.{since}
 use Rattle.line.specs.declared.Verb.{Verb}
 use Rattle.line.specs.declared.Verb.TheVariants.{Format, Open, Seal, Begin, Next, Insert, Update, Delete, Read, Commit, Withdraw, Sweep, IllFormed}
@@ -114,26 +114,26 @@ all_proper_lem (l ∷ ls) k =
 -- a line that is an accepted format makes one on the world behind it
 module _ (k : Carried) (cs : List Call) where
   formats_here : (x y : ℕ) (body : Body) → (left_in k (command Format x y body)).code ≡ 0
-      → formatsIn (world_in k) (and_then (made k (command Format x y body)) cs) ≡ true
+      → formats_in (world_in k) (and_then (made k (command Format x y body)) cs) ≡ true
   unfolding step left_in play_rule body_of
   formats_here x y body code =
-      ap (λ (n : ℕ). is_done (answered n 0 0 []) || formatsIn (after (world_in k) (format a.«data» a.undo a.status)) cs) code
+      ap (λ (n : ℕ). is_done (answered n 0 0 []) || formats_in (after (world_in k) (format a.«data» a.undo a.status)) cs) code
     where
       a : Areas
       a = lent_to k (command Format x y body)
 
   formats_now : (v : Verb) (x y : ℕ) (body : Body) → is_format v ≡ true → (left_in k (command v x y body)).code ≡ 0
-      → formatsIn (world_in k) (and_then (made k (command v x y body)) cs) ≡ true
+      → formats_in (world_in k) (and_then (made k (command v x y body)) cs) ≡ true
   formats_now v x y body f =
-      subst (λ (v : Verb). (left_in k (command v x y body)).code ≡ 0 → formatsIn (world_in k) (and_then (made k (command v x y body)) cs) ≡ true)
+      subst (λ (v : Verb). (left_in k (command v x y body)).code ≡ 0 → formats_in (world_in k) (and_then (made k (command v x y body)) cs) ≡ true)
       (sym (only_format v f)) (formats_here x y body)
 
 -- or a later one does
-formats_later : (w : World) (o : Option Call) (cs : List Call) → formatsIn (after_line w o) cs ≡ true → formatsIn w (and_then o cs) ≡ true
+formats_later : (w : World) (o : Option Call) (cs : List Call) → formats_in (after_line w o) cs ≡ true → formats_in w (and_then o cs) ≡ true
 formats_later w none cs e = e
-formats_later w (some c) cs e = ap (λ (b : Bool). acceptedIn w c || b) e ∙ or-true (acceptedIn w c)
+formats_later w (some c) cs e = ap (λ (b : Bool). accepted_in w c || b) e ∙ or-true (accepted_in w c)
 
-formats_calls : (ls : List (List ℕ)) (k : Carried) → formats k ls ≡ true → formatsIn (world_in k) (calls_in k ls) ≡ true
+formats_calls : (ls : List (List ℕ)) (k : Carried) → formats k ls ≡ true → formats_in (world_in k) (calls_in k ls) ≡ true
 formats_calls [] k e = e
 formats_calls (l ∷ ls) k e = by (accepted k c) refl e (formats_calls ls (stepped k c))
   where
@@ -141,15 +141,15 @@ formats_calls (l ∷ ls) k e = by (accepted k c) refl e (formats_calls ls (stepp
     c = command_in k l
 
     by : (b : Bool) → accepted k c ≡ b → (b || formats (stepped k c) ls) ≡ true
-        → (formats (stepped k c) ls ≡ true → formatsIn (world_in (stepped k c)) (calls_in (stepped k c) ls) ≡ true)
-        → formatsIn (world_in k) (and_then (made k c) (calls_in (stepped k c) ls)) ≡ true
+        → (formats (stepped k c) ls ≡ true → formats_in (world_in (stepped k c)) (calls_in (stepped k c) ls) ≡ true)
+        → formats_in (world_in k) (and_then (made k c) (calls_in (stepped k c) ls)) ≡ true
     by true f e ih =
         formats_now k (calls_in (stepped k c) ls) c.verb c.first c.second c.body
         (and_true_left (is_format c.verb) (eqb (left_in k c).code 0) f)
         (eqb-true (left_in k c).code 0 (and_true_right (is_format c.verb) (eqb (left_in k c).code 0) f))
     by false f e ih =
         formats_later (world_in k) (made k c) (calls_in (stepped k c) ls)
-        (ap (λ (w : World). formatsIn w (calls_in (stepped k c) ls)) (sym (line_step k c).0) ∙ ih e)
+        (ap (λ (w : World). formats_in w (calls_in (stepped k c) ls)) (sym (line_step k c).0) ∙ ih e)
 
 -- lines of which one is an accepted format are a run of history, with the history that they say
 pub script_run : (k : Carried) (ls : List (List ℕ)) → formats k ls ≡ true → Since (world_in (onward k ls)) (history_in k ls)

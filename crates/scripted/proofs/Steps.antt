@@ -17,7 +17,7 @@ use Rattle.keep.specs.Keep.{format_rule}
 use Rattle.keep.proofs.Promises.{format_accepted}
 use Rattle.calls.specs.Calls.{Left, body as body_in, format_leaves}
 use Rattle.machine.specs.Table.{Body}
-use Rattle.machine.specs.Lines.{Call, format, is_format as isFormatCall}
+use Rattle.machine.specs.Lines.{Call, format, is_format as is_format_call}
 use Rattle.history.specs.World.{World, world, answered, left_by, verdict_of, world_after, step, after}
 use Rattle.line.specs.declared.Verb.{Verb}
 use Rattle.line.specs.declared.Verb.TheVariants.{Format, Open, Seal, Begin, Next, Insert, Update, Delete, Read, Commit, Withdraw, Sweep, IllFormed}
@@ -41,7 +41,7 @@ line_answered c zero a b y = refl
 line_answered c (suc n) a b y = answer_refused (suc n) (fields_for c a b y) (λ e. omega (arith, e))
 
 -- what the world of a call is where it is no format
-plain_after : (w : World) (c : Call) → isFormatCall c ≡ false → world_after (left_by w c) ≡ after w c
+plain_after : (w : World) (c : Call) → is_format_call c ≡ false → world_after (left_by w c) ≡ after w c
 unfolding step
 plain_after w c f =
     ap (λ (b : Bool). cond b (settle (left_by w c).code (world_after (left_by w c)) (λ (n : ℕ). w)) (world_after (left_by w c))) (sym f)
@@ -66,7 +66,7 @@ module _ (a : Areas) (d : Desk) (x y : ℕ) (body : List ℕ) where
 
   abbrev format_in : Option Call → Bool
   format_in none = false
-  format_in (some c) = isFormatCall c
+  format_in (some c) = is_format_call c
 
   -- by its name it is the same
   abbrev Makes : Verb → Option Call → Type 0

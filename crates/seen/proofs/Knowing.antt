@@ -8,7 +8,7 @@ use lib.Dec.{eqb, ltb}
 use lib.ListN.{get_or, length}
 use borrow.Author.Tests.{eqb-true, eqb-false, eq-eqb, ne_eqb}
 use Rattle.desk.specs.View.{View}
-use Rattle.sight.specs.Sight.{known, earlier, listed, committed, standing, sees as seesFor, is_committed as is_done}
+use Rattle.sight.specs.Sight.{known, earlier, listed, committed, standing, sees as sees_for, is_committed as is_done}
 use Rattle.sight.proofs.Sights.{listed_at, listed_intro}
 use Rattle.machine.specs.Table.{member}
 use Rattle.machine.specs.Machine.{Session, counts, sees, is_committed}
@@ -58,8 +58,8 @@ abbrev pub session_of : View → Session
 session_of v = record { number = v.number; statement = v.statement; list = used v.list }
 
 pub sees_is : (v : View) (s : List ℕ) (x : ℕ) → length v.list ≤ 15
-    → sees (λ (n : ℕ). as_standing (standing n s)) (session_of v) x ≡ seesFor v.number v.list s x
-unfolding seesFor committed
+    → sees (λ (n : ℕ). as_standing (standing n s)) (session_of v) x ≡ sees_for v.number v.list s x
+unfolding sees_for committed
 sees_is v s x h = go (eqb x 0) refl
   where
     flat : (a b c d : Bool) → (a && (b && (c && d))) ≡ (a && b && c && d)

@@ -20,7 +20,7 @@ use Rattle.desk.specs.Turns.{mark}
 use Rattle.sessions.proofs.Ascents.{ascending_rising}
 use Rattle.sessions.proofs.Changes.{Long, open_unused}
 use Rattle.sessions.proofs.Lists.{sound_list}
-use Rattle.machine.specs.Machine.{Session, least, numbers as numbers_of, mark as markAmong}
+use Rattle.machine.specs.Machine.{Session, least, numbers as numbers_of, mark as mark_among}
 use Rattle.seen.specs.Seen.{used, sessions_from, open_sessions}
 use Rattle.seen.proofs.Counts.{open_at_most, used_first, used_numbers}
 
@@ -89,7 +89,7 @@ abbrev members : List Session → List ℕ
 members [] = []
 members (s ∷ l) = s.list ++ members l
 
-mark_parts : (l : List Session) (a : ℕ) → markAmong a l ≡ least (least a (numbers_of l)) (members l)
+mark_parts : (l : List Session) (a : ℕ) → mark_among a l ≡ least (least a (numbers_of l)) (members l)
 mark_parts [] a = refl
 mark_parts (s ∷ l) a =
     mark_parts l (least (lower s.number a) s.list)
@@ -147,7 +147,7 @@ module _ (d : Desk) (s : sound d ≡ true) (long : Long d) where
       next : k * 15 + 15 ≡ (k + 1) * 15
       next = omega arith
 
-  pub mark_is : mark d ≡ markAmong d.next (open_sessions d)
+  pub mark_is : mark d ≡ mark_among d.next (open_sessions d)
   unfolding mark mark_of
   mark_is =
       smallest_least d.lists (smallest d.next d.numbers)

@@ -9,7 +9,7 @@ use lib.Dec.{ltb}
 use Rattle.desk.specs.View.{View}
 use Rattle.status.specs.declared.Status.{Status}
 use Rattle.status.specs.declared.Status.TheVariants.{InWork, Committed, Withdrawn, Reserved}
-use Rattle.sight.specs.Sight.{known, there as thereFor, committed, standing, is_committed as is_done}
+use Rattle.sight.specs.Sight.{known, there as there_for, committed, standing, is_committed as is_done}
 use Rattle.sight.specs.Conflict.{is_dead}
 use Rattle.chain.specs.declared.Walk.{Walk}
 use Rattle.chain.specs.declared.Walk.TheVariants.{Found, Absent, Broken}
@@ -21,7 +21,7 @@ use Rattle.seen.specs.Seen.{as_standing, held_of, all_held}
 
 -- a version is there by the machine's rule exactly where it is by sight's
 pub there_is : (v : View) (s d u : List ℕ) (x : Version) → there (known v s) (held_of d u x) ≡ there_in v s x.slot
-unfolding thereFor
+unfolding there_for
 there_is v s d u x = refl
 
 pub committed_is : (y : Status) → is_committed (as_standing y) ≡ is_done y
@@ -43,7 +43,7 @@ Says d u Broken o k = ⊥
 
 pub first_in_is : (v : View) (s d u : List ℕ) (n : ℕ) (xs : List Version)
     → Says d u (first_in (there_in v s) n xs true) (first_there (known v s) (all_held d u xs)) (n + looked_at (known v s) (all_held d u xs))
-unfolding first_in thereFor
+unfolding first_in there_for
 first_in_is v s d u n [] = refl
 first_in_is v s d u n (x ∷ xs) = go (there_in v s x.slot) (first_in_is v s d u (n + 1) xs)
   where

@@ -61,7 +61,7 @@ module _ (q : Slot → List Version → Type 0) (r : ℕ) (p p' : Both) (k : Tre
 
 -- ---- all of them: f treats a row, g the n rows from r on
 
-module _ {D U S E : List ℕ → List ℕ → Type 0} {markD markU : ℕ → List ℕ → List ℕ} (md : Marks data_kind D markD) (mu : Marks undo_kind U markU)
+module _ {D U S E : List ℕ → List ℕ → Type 0} {mark_d mark_u : ℕ → List ℕ → List ℕ} (md : Marks data_kind D mark_d) (mu : Marks undo_kind U mark_u)
     (v w : Slot → List Version → Type 0) (f : ℕ → Both → Both) (g : ℕ → ℕ → Both → Both) (turns : Turns f g)
     (one : (r : ℕ) (p : Both) → RowIn r p.«data» p.undo → Treads D U S E v w r p (f r p))
   where

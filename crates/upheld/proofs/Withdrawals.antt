@@ -26,7 +26,7 @@ use Rattle.undoing.specs.Undoing.{undone_from, undone}
 use Rattle.versions.specs.Versions.{AllWhole}
 use Rattle.outcomes.proofs.Outcomes.{undone_turns}
 use Rattle.outcomes.proofs.Undones.{own_ended, undone_row_treated, undone_row_none, chain_of_undone_row_ended, chain_of_undone_row_made, body_at_undone_row_made, body_at_undone_row_ended, whole_undone_row}
-use Rattle.machine.specs.Machine.{Version as Held, expired, expire_first, since, put_back, undone as undoneRows}
+use Rattle.machine.specs.Machine.{Version as Held, expired, expire_first, since, put_back, undone as undone_rows}
 use Rattle.seen.specs.Seen.{held_of, all_held, row_of}
 use Rattle.upheld.proofs.Stays.{held_in, whole_in, older_kept, within, within_in, row_of_outside, shaped_after, whole_after, rows_after}
 
@@ -72,7 +72,7 @@ module _ (n k : ℕ) (number : 0 < n) (t : ℕ) (d u : List ℕ) (h : RowIn t d 
   after = undone_row n k t (both d u)
 
   abbrev Undone : Type 0
-  Undone = held_in after t ≡ undoneRows (since n k) (held_in (both d u) t)
+  Undone = held_in after t ≡ undone_rows (since n k) (held_in (both d u) t)
 
   treated : Treated t d u after.«data» after.undo
   treated = undone_row_treated n k t d u h
@@ -94,7 +94,7 @@ module _ (n k : ℕ) (number : 0 < n) (t : ℕ) (d u : List ℕ) (h : RowIn t d 
 
   -- nothing is written
   untouched : own_made n k (slot_at t d) ≡ false → own_ended n k t d u h ≡ false
-      → held_in (both d u) t ≡ undoneRows (since n k) (held_in (both d u) t)
+      → held_in (both d u) t ≡ undone_rows (since n k) (held_in (both d u) t)
       → Undone
   untouched made ended same = ap (λ (p : Both). held_in p t) (undone_row_none n k t d u h made ended) ∙ same
 
@@ -103,7 +103,7 @@ module _ (n k : ℕ) (number : 0 < n) (t : ℕ) (d u : List ℕ) (h : RowIn t d 
   empty z =
       let nobody : eqb (slot_at t d).create n ≡ false = ne_eqb (slot_at t d).create n (λ e. omega arith) in
       untouched (rw nobody) (rw (eq-eqb (slot_at t d).create 0 z))
-      (subst (λ (c : Chain). all_held d u c.versions ≡ undoneRows (since n k) (all_held d u c.versions)) (sym (chain_of_empty d u t z)) refl)
+      (subst (λ (c : Chain). all_held d u c.versions ≡ undone_rows (since n k) (all_held d u c.versions)) (sym (chain_of_empty d u t z)) refl)
 
   used : ((slot_at t d).create ≡ 0 → ⊥) → Undone
   unfolding own rest on_first
@@ -120,11 +120,11 @@ module _ (n k : ℕ) (number : 0 < n) (t : ℕ) (d u : List ℕ) (h : RowIn t d 
 
       -- what the machine makes of the row
       by_rule : (a b : Bool) → own_made n k (slot_at t d) ≡ a → own n k (slot_at t d).expire (slot_at t d).expire_cmd ≡ b
-          → undoneRows (since n k) (held_in (both d u) t)
+          → undone_rows (since n k) (held_in (both d u) t)
           ≡ cond a (expire_first 0 0 (all_held d u (rest (own_made n k) behind.versions)))
           (cond b (expired 0 0 (held_of d u first) ∷ all_held d u behind.versions) (all_held d u (first ∷ behind.versions)))
       by_rule a b made e =
-          ap (λ (c : Chain). undoneRows (since n k) (all_held d u c.versions)) is
+          ap (λ (c : Chain). undone_rows (since n k) (all_held d u c.versions)) is
           ∙ rw (made, e, put_back_is n k d u behind.versions)
 
       ends : (b : Bool) → own n k (slot_at t d).expire (slot_at t d).expire_cmd ≡ b → own_ended n k t d u h ≡ b
@@ -173,27 +173,27 @@ module _ (n k : ℕ) (number : 0 < n) (t : ℕ) (d u : List ℕ) (h : RowIn t d 
 
 module _ (n k : ℕ) (number : 0 < n) (d u : List ℕ) (h : RowsIn (rows d) (both d u)) (whole : AllWhole d u) where
   one : (t : ℕ) (q : Both) → RowIn t q.«data» q.undo → whole_in q t
-      → (held_in (undone_row n k t q) t ≡ undoneRows (since n k) (held_in q t)) × whole_in (undone_row n k t q) t
+      → (held_in (undone_row n k t q) t ≡ undone_rows (since n k) (held_in q t)) × whole_in (undone_row n k t q) t
   one t q = row_undone n k number t q.«data» q.undo
 
   all : RowsIn (0 + rows d) (both d u)
   all = record { few = omega arith; «data» = h.«data»; undo = h.undo }
 
-  pub withdraw_rows : (q : ℕ) → row_of (undone n k d u).«data» (undone n k d u).undo q ≡ undoneRows (since n k) (row_of d u q)
+  pub withdraw_rows : (q : ℕ) → row_of (undone n k d u).«data» (undone n k d u).undo q ≡ undone_rows (since n k) (row_of d u q)
   unfolding undone
   withdraw_rows q =
-      rows_after (undone_row n k) (undone_from n k) (undone_turns n k) (undoneRows (since n k)) one 0 (rows d) d u all whole refl q
+      rows_after (undone_row n k) (undone_from n k) (undone_turns n k) (undone_rows (since n k)) one 0 (rows d) d u all whole refl q
       ∙ by (ltb q (rows d)) refl
     where
       now : Bool → List Held → List Held
-      now b vs = cond b (undoneRows (since n k) vs) vs
+      now b vs = cond b (undone_rows (since n k) vs) vs
 
-      by : (b : Bool) → ltb q (rows d) ≡ b → now (within 0 (rows d) q) (row_of d u q) ≡ undoneRows (since n k) (row_of d u q)
+      by : (b : Bool) → ltb q (rows d) ≡ b → now (within 0 (rows d) q) (row_of d u q) ≡ undone_rows (since n k) (row_of d u q)
       by true e =
           let inside : q < rows d = ltb-true q (rows d) e in
           ap (λ (b : Bool). now b (row_of d u q)) (within_in 0 (rows d) q (omega arith) (omega arith))
       by false e =
-          subst (λ (vs : List Held). now (within 0 (rows d) q) vs ≡ undoneRows (since n k) vs)
+          subst (λ (vs : List Held). now (within 0 (rows d) q) vs ≡ undone_rows (since n k) vs)
           (sym (row_of_outside d u q (ltb-false q (rows d) e)))
           (none (within 0 (rows d) q))
         where
@@ -203,7 +203,7 @@ module _ (n k : ℕ) (number : 0 < n) (d u : List ℕ) (h : RowsIn (rows d) (bot
 
   pub withdraw_whole : AllWhole (undone n k d u).«data» (undone n k d u).undo
   unfolding undone
-  withdraw_whole = whole_after (undone_row n k) (undone_from n k) (undone_turns n k) (undoneRows (since n k)) one 0 (rows d) d u all whole
+  withdraw_whole = whole_after (undone_row n k) (undone_from n k) (undone_turns n k) (undone_rows (since n k)) one 0 (rows d) d u all whole
 
   pub withdraw_shaped : Shaped d (undone n k d u).«data» × Shaped u (undone n k d u).undo
   unfolding undone

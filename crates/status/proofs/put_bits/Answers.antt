@@ -5,14 +5,6 @@ use Rattle.status.specs.Status.{put_bits_in}
 use Rattle.status.proofs.StatusLaws.{put_bits_in_byte}
 use Rattle.status.proofs.put_bits.Goals as goal
 
--- LOST nonzero-rem-result
--- rem-result : tie.Need-nonzero-rem-result
--- rem-result c = omega (arith, unit_pos c.before.args.n)
-
--- LOST nonzero-div-result
--- div-result : tie.Need-nonzero-div-result
--- div-result c = omega (arith, unit_pos c.before.args.n)
-
 pub overflow_mul-result : goal.overflow_mul-result
 overflow_mul-result c = omega (arith, div-le_self c.args.b c.unit-low.result)
 
