@@ -8,9 +8,23 @@ use lib.Seq.{length-take-le}
 use lib.Dec.{eqb}
 use borrow.Rule.Slice.PartMut.{put_mid, take_put}
 use borrow.Author.Tests.{eq-eqb, ne_eqb}
-use Rattle.std.specs.Prelude.{min, Option, Some, None}
+use Rattle.std.specs.Prelude.{min, Option, Some, None, true, false}
 use Rattle.feeding.specs.declared.Filled.{Filled}
 use Rattle.feeding.specs.Feeding.{filled_by, Fills}
+
+-- ---- what it gave
+
+pub gave_none : (kept room : ℕ) → ◌≡◌ {A = Filled} (record { good = false; end = kept; last = true }) (filled_by kept None room)
+unfolding filled_by
+gave_none kept room = refl
+
+pub gave_some : (kept got room n : ℕ) → n ≡ min got room → ◌≡◌ {A = Filled} (record { good = true; end = kept + n; last = eqb n 0 }) (filled_by kept (Some got) room)
+unfolding filled_by
+gave_some kept got room n e = rw e
+
+-- no more than there is room for is counted
+counts : (got room : ℕ) → min got room ≤ room
+counts got room = omega arith
 
 -- ---- what it leaves
 

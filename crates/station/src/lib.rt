@@ -1,6 +1,6 @@
-// The store for a station's own program, from C or Rust (include/chirimok.h; station_c gives them their names in the archive). Each function hands its call on, and says the number that
-// the call answers, 0 where it is done. The desk is 289 words of 32 bits, lent; they change only where the call is done, but for the mark
-// of a session that an update or delete answers 10 ("02, T-07"). No rule is here.
+// The store for a station's own program, from C or Rust (include/chirimok.h; station_c has the functions for the archive). Each function
+// hands its call on, and says the number that the call answers, 0 where it is done. The desk is 289 words of 32 bits, lent; they change
+// only where the call is done, but for the mark of a session that an update or delete answers 10 ("02, T-07"). No rule is here.
 #![tactic(auto)]
 
 ghost use Rattle.std.specs.Prelude.{◌≡◌, [], ◌∷◌, length};

@@ -1,13 +1,11 @@
-// The store for a station's own program, from C or Rust (include/chirimok.h): the functions of the crate station under their names in the archive, each
-// with its clauses. A static library is no library for other crates, so the theorems about these calls stand over station.
+// The store for a station's own program, from C or Rust (include/chirimok.h): the functions of `station` under their names in the archive,
+// each with its clauses. No crate can stand on a static library, so the theorems about these calls are over `station`.
 #![tactic(auto)]
 
-ghost use Rattle.std.specs.Prelude.{◌≡◌, [], ◌∷◌, length};
+ghost use Rattle.std.specs.Prelude.{[]};
 ghost use Rattle.ground.specs.Does.{Does};
-ghost use Rattle.ground.specs.Refuse.{kept};
 ghost use Rattle.kind.specs.Areas.{areas};
-ghost use Rattle.words.specs.Words.{all_words, words_of};
-ghost use Rattle.station.specs.Station.{handed, lies_of, format_call, open_call, seal_call, begin_call, next_call, insert_call, update_call, delete_call, read_call, commit_call, withdraw_call, sweep_call};
+ghost use Rattle.station.specs.Station.{handed, format_call, open_call, seal_call, begin_call, next_call, insert_call, update_call, delete_call, read_call, commit_call, withdraw_call, sweep_call};
 
 use words::Words;
 
