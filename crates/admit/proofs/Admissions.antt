@@ -8,12 +8,13 @@ use native.Mathlib.Omega.{arith}
 use lib.ListN.{length, get_or}
 use lib.Dec.{eqb}
 use borrow.Author.Tests.{not-false}
+use Rattle.std.specs.Prelude.{Result, Ok, Err}
 use Rattle.ground.specs.Refuse.{first_of, settle}
 use Rattle.ground.proofs.Refusals.{first_of_none, first_of_past}
-use Rattle.answer.specs.declared.Answer.{Answer}
-use Rattle.answer.specs.declared.Answer.TheVariants.{Spoiled}
+use Rattle.answer.specs.declared.Refusal.{Refusal}
+use Rattle.answer.specs.declared.Refusal.TheVariants.{Spoiled}
 use Rattle.answer.specs.Code.{code_of}
-use Rattle.answer.proofs.Codes.{code_of_injective}
+use Rattle.answer.proofs.Codes.{done_once}
 use Rattle.desk.specs.declared.Desk.{Desk}
 use Rattle.desk.specs.Sound.{sound}
 use Rattle.desk.specs.Turns.{spoiled_at, is_spoiled}
@@ -23,8 +24,6 @@ use Rattle.words.proofs.Laws.{words_once}
 use Rattle.kind.specs.Areas.{areas, bad_length}
 use Rattle.kind.proofs.Lengths.{AllLent, all_lent, status_length}
 use Rattle.sessions.proofs.Changes.{Open, is_open_open}
-use Rattle.admit.specs.declared.Admitted.{Admitted}
-use Rattle.admit.specs.declared.Admitted.TheVariants.{At, Refused}
 use Rattle.admit.specs.Admit.{admit_of, unless_spoiled, unspoiled_of, said}
 use Rattle.admit.proofs.Admits.{Admission, admit_of_refused, admit_of_calm, admit_of_at}
 
@@ -33,7 +32,7 @@ pub record Admits (d u s : List ℕ) (desk : Desk) (x k : ℕ) : Type 0 where
   pub passed : Admission (length d) (length u) (length s) desk x k
 
 module _ (d u s : List ℕ) (desk : Desk) (x : ℕ) where
-  abbrev pub admission : Admitted
+  abbrev pub admission : Result ℕ Refusal
   admission = admit_of (length d) (length u) (length s) desk x
 
   -- the front of every session call's list of refusals
@@ -41,13 +40,13 @@ module _ (d u s : List ℕ) (desk : Desk) (x : ℕ) where
   asks rest = (bad_length (areas d u s), 1) ∷ (not (sound desk), 2) ∷ (not (is_open x desk.numbers), 4) ∷ rest
 
   -- the session is refused, whatever stands behind 4
-  pub refuses : {A : Type 0} (n : Answer) (rest : List (Bool × ℕ)) (done : A) (refused : ℕ → A)
-      → admission ≡ Refused n
+  pub refuses : {A : Type 0} (n : Refusal) (rest : List (Bool × ℕ)) (done : A) (refused : ℕ → A)
+      → admission ≡ Err n
       → settle (first_of (asks rest)) done refused ≡ refused (code_of n)
   refuses n rest done refused e =
       admit_of_refused (length d) (length u) (length s) desk x n rest done refused e
 
-  pub admits : (k : ℕ) → admission ≡ At k → Admits d u s desk x k
+  pub admits : (k : ℕ) → admission ≡ Ok k → Admits d u s desk x k
   admits k e =
       record { passed = admit_of_at (length d) (length u) (length s) desk x k e }
 
@@ -116,7 +115,7 @@ pub record Unspoiled (d u s : List ℕ) (desk : Desk) (x k : ℕ) : Type 0 where
   pub unspoiled : is_spoiled x desk ≡ false
 
 module _ (d u s : List ℕ) (desk : Desk) (x : ℕ) where
-  abbrev pub unspoiled_admission : Admitted
+  abbrev pub unspoiled_admission : Result ℕ Refusal
   unspoiled_admission = unspoiled_of (length d) (length u) (length s) desk x
 
   -- the front of their lists of refusals
@@ -128,52 +127,52 @@ module _ (d u s : List ℕ) (desk : Desk) (x : ℕ) where
   mark_there k a = ap (λ (i : ℕ). spoiled_at i desk) (admits_at d u s desk x k a)
 
   -- what is refused, by what admission said: P holds of 18 where the session is spoiled, and of what admission refused else
-  refused_by_lem : (n : Answer) (P : Answer → Type 0) → unspoiled_admission ≡ Refused n
-      → ((m : Answer) → admission d u s desk x ≡ Refused m → P m)
+  refused_by_lem : (n : Refusal) (P : Refusal → Type 0) → unspoiled_admission ≡ Err n
+      → ((m : Refusal) → admission d u s desk x ≡ Err m → P m)
       → ((k : ℕ) → Admits d u s desk x k → is_spoiled x desk ≡ true → P Spoiled)
       → P n
   unfolding unspoiled_of
   refused_by_lem n P e first last = by (admission d u s desk x) refl e
     where
-      at : (k : ℕ) → admission d u s desk x ≡ At k → (t : Bool) → spoiled_at k desk ≡ t → cond t (Refused Spoiled) (At k) ≡ Refused n → P n
+      at : (k : ℕ) → admission d u s desk x ≡ Ok k → (t : Bool) → spoiled_at k desk ≡ t → cond t (Err Spoiled) (Ok k) ≡ Err n → P n
       at k is true marked f =
           let a = admits d u s desk x k is in
           let q : Spoiled ≡ n = cc in
           subst P q (last k a (sym (mark_there k a) ∙ marked))
       at k is false marked f = let z : ◌≡◌ {A = ℕ} 0 1 = cc in absurd (omega arith)
 
-      by : (r : Admitted) → admission d u s desk x ≡ r → unless_spoiled desk r ≡ Refused n → P n
-      by (Refused m) is f = let q : m ≡ n = cc in subst P q (first m is)
-      by (At k) is f = at k is (spoiled_at k desk) refl f
+      by : (r : Result ℕ Refusal) → admission d u s desk x ≡ r → unless_spoiled desk r ≡ Err n → P n
+      by (Err m) is f = let q : m ≡ n = cc in subst P q (first m is)
+      by (Ok k) is f = at k is (spoiled_at k desk) refl f
 
   -- the session is refused, whatever stands behind 18
-  pub refuses_unspoiled : {A : Type 0} (n : Answer) (rest : List (Bool × ℕ)) (done : A) (refused : ℕ → A)
-      → unspoiled_admission ≡ Refused n
+  pub refuses_unspoiled : {A : Type 0} (n : Refusal) (rest : List (Bool × ℕ)) (done : A) (refused : ℕ → A)
+      → unspoiled_admission ≡ Err n
       → settle (first_of (asks_unspoiled rest)) done refused ≡ refused (code_of n)
   refuses_unspoiled n rest done refused e =
-      refused_by_lem n (λ (m : Answer). settle (first_of (asks_unspoiled rest)) done refused ≡ refused (code_of m)) e
+      refused_by_lem n (λ (m : Refusal). settle (first_of (asks_unspoiled rest)) done refused ≡ refused (code_of m)) e
       (λ m f. refuses d u s desk x m ((is_spoiled x desk, 18) ∷ rest) done refused f)
       (λ k a f. goes_on d u s desk x k a ((is_spoiled x desk, 18) ∷ rest) done refused ∙ rw f refl)
 
   -- and that is no 10
-  pub refuses_calm : (n : Answer) → unspoiled_admission ≡ Refused n → eqb (code_of n) 10 ≡ false
+  pub refuses_calm : (n : Refusal) → unspoiled_admission ≡ Err n → eqb (code_of n) 10 ≡ false
   refuses_calm n e =
-      refused_by_lem n (λ (m : Answer). eqb (code_of m) 10 ≡ false) e (λ m f. admit_of_calm (length d) (length u) (length s) desk x m f) (λ k a f. refl)
+      refused_by_lem n (λ (m : Refusal). eqb (code_of m) 10 ≡ false) e (λ m f. admit_of_calm (length d) (length u) (length s) desk x m f) (λ k a f. refl)
 
-  pub admits_unspoiled : (k : ℕ) → unspoiled_admission ≡ At k → Unspoiled d u s desk x k
+  pub admits_unspoiled : (k : ℕ) → unspoiled_admission ≡ Ok k → Unspoiled d u s desk x k
   unfolding unspoiled_of
   admits_unspoiled k e = by (admission d u s desk x) refl e
     where
-      at : (p : ℕ) → admission d u s desk x ≡ At p → (t : Bool) → spoiled_at p desk ≡ t → cond t (Refused Spoiled) (At p) ≡ At k → Unspoiled d u s desk x k
+      at : (p : ℕ) → admission d u s desk x ≡ Ok p → (t : Bool) → spoiled_at p desk ≡ t → cond t (Err Spoiled) (Ok p) ≡ Ok k → Unspoiled d u s desk x k
       at p is true marked f = let z : ◌≡◌ {A = ℕ} 0 1 = cc in absurd (omega arith)
       at p is false marked f =
           let q : p ≡ k = cc in
           let a = admits d u s desk x p is in
           subst (Unspoiled d u s desk x) q (record { admitted = a; unspoiled = sym (mark_there p a) ∙ marked })
 
-      by : (r : Admitted) → admission d u s desk x ≡ r → unless_spoiled desk r ≡ At k → Unspoiled d u s desk x k
-      by (Refused m) is f = let z : ◌≡◌ {A = ℕ} 0 1 = cc in absurd (omega arith)
-      by (At p) is f = at p is (spoiled_at p desk) refl f
+      by : (r : Result ℕ Refusal) → admission d u s desk x ≡ r → unless_spoiled desk r ≡ Ok k → Unspoiled d u s desk x k
+      by (Err m) is f = let z : ◌≡◌ {A = ℕ} 0 1 = cc in absurd (omega arith)
+      by (Ok p) is f = at p is (spoiled_at p desk) refl f
 
   -- where nothing is refused the session was admitted and is not spoiled, and nothing behind 18 is refused
   pub accepts_unspoiled : (rest : List (Bool × ℕ)) → first_of (asks_unspoiled rest) ≡ 0
@@ -196,6 +195,6 @@ module _ (d u s : List ℕ) (desk : Desk) (x : ℕ) where
 
 -- ---- no second answer and no second words say the same
 
-pub said_once : (w w' : List ℕ) → length w ≡ all_words → length w' ≡ all_words → (r r' : Answer) → said r w ≡ said r' w' → (r ≡ r') × (w ≡ w')
+pub said_once : (w w' : List ℕ) → length w ≡ all_words → length w' ≡ all_words → (r r' : Result (Unit {0}) Refusal) → said r w ≡ said r' w' → (r ≡ r') × (w ≡ w')
 said_once w w' long long' r r' e =
-    (code_of_injective r r' (ap (λ (p : ℕ × Desk). p.0) e), words_once w w' long long' (ap (λ (p : ℕ × Desk). p.1) e))
+    (done_once r r' (ap (λ (p : ℕ × Desk). p.0) e), words_once w w' long long' (ap (λ (p : ℕ × Desk). p.1) e))

@@ -2,55 +2,38 @@
 // change something, that the session is not spoiled ("02, T-07", 18). The desk is lent as its words, and no copy of it is made.
 #![tactic(auto)]
 
-ghost use Rattle.std.specs.Prelude.{◌≡◌, length};
-ghost use Rattle.words.specs.Words.{all_words, desk_in};
+ghost use Rattle.std.specs.Prelude.{◌≡◌};
+ghost use Rattle.words.specs.Words.{desk_in};
 ghost use Rattle.admit.specs.Admit.{admit_of, unspoiled_of};
 
-use answer::Answer;
-use columns::Limits;
+use answer::Refusal;
+use words::Words;
 
-// The place of the session on the desk, or the refusal.
-#[derive(Drop)]
-pub enum Admitted {
-    At(usize),
-    Refused(Answer),
-}
-
-// Admits session x to areas of these lengths and the desk that these words say.
-pub fn admit(d: usize, u: usize, s: usize, desk: &[u32], x: u64) -> Admitted
-    requires { length desk.now ≡ all_words }
+// The place on the desk that these words say at which session x is admitted to areas of these lengths, or the refusal. No session is 0.
+#[tactic(auto, using(crate::proofs::Admits::admit_of_1, crate::proofs::Admits::admit_of_2, crate::proofs::Admits::admit_of_zero, crate::proofs::Admits::admit_of_found))]
+pub fn admit(d: usize, u: usize, s: usize, desk: &Words, x: u64) -> Result<usize, Refusal>
     ensures { result ≡ admit_of d u s (desk_in desk.now) x }
 {
     if !kind::lengths_ok(d, u, s) {
-        return Admitted::Refused(Answer::BadLength);
+        return Err(Refusal::BadLength);
     }
     if !words::is_sound(desk) {
-        return Admitted::Refused(Answer::Unsound);
+        return Err(Refusal::Unsound);
     }
-    let k = words::find(desk, x);
     if x == 0 {
-        return Admitted::Refused(Answer::NotOpen);
+        return Err(Refusal::NotOpen);
     }
-    if k < Limits::SESSIONS {
-        Admitted::At(k)
-    } else {
-        Admitted::Refused(Answer::NotOpen)
-    }
+    words::find(desk, x).ok_or(Refusal::NotOpen)
 }
 
 // Admits session x where it is not spoiled: "insert, update, delete, next and commit answer 18, directly after 4".
-pub fn admit_unspoiled(d: usize, u: usize, s: usize, desk: &[u32], x: u64) -> Admitted
-    requires { length desk.now ≡ all_words }
+#[tactic(auto, using(crate::proofs::Admits::admit_of_place, crate::proofs::Admits::unspoiled_refused, crate::proofs::Admits::unspoiled_18, crate::proofs::Admits::unspoiled_at))]
+pub fn admit_unspoiled(d: usize, u: usize, s: usize, desk: &Words, x: u64) -> Result<usize, Refusal>
     ensures { result ≡ unspoiled_of d u s (desk_in desk.now) x }
 {
-    let a = admit(d, u, s, desk, x);
-    match a {
-        Admitted::Refused(answer) => Admitted::Refused(answer),
-        Admitted::At(k) => {
-            if words::is_spoiled(desk, k) {
-                return Admitted::Refused(Answer::Spoiled);
-            }
-            Admitted::At(k)
-        }
+    let k = admit(d, u, s, desk, x)?;
+    if words::is_spoiled(desk, k) {
+        return Err(Refusal::Spoiled);
     }
+    Ok(k)
 }

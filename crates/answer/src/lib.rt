@@ -1,14 +1,12 @@
-// What a call answers: a name for each number of document 01's table ("01, When the desk says no") and for those
-// that document 02 adds.
+// What a call answers where it refuses: a name for each number of document 01's table ("01, When the desk says no") and for those
+// that document 02 adds. A call that is done answers what it has to say, and its number is 0.
 #![tactic(auto)]
 
 ghost use Rattle.std.specs.Prelude.{◌≡◌};
-ghost use Rattle.answer.specs.Code.{code_of};
+ghost use Rattle.answer.specs.Code.{code_of, number_of};
 
-#[derive(Clone, Copy)]
-pub enum Answer {
-    // 0: done
-    Done,
+#[derive(Clone, Copy, PartialEq, Eq)]
+pub enum Refusal {
     // 1: an area's length isn't allowed
     BadLength,
     // 2: desk unsound
@@ -47,29 +45,40 @@ pub enum Answer {
     Spoiled,
 }
 
-// The number that the paper gives an answer.
-pub fn code(a: Answer) -> u32
-    ensures { result ≡ code_of a }
+// The number that the paper gives a refusal.
+impl From<Refusal> for u32 {
+    ghost from_gives = { λ refusal code. code ≡ code_of refusal };
+
+    fn from(refusal: Refusal) -> u32 {
+        match refusal {
+            Refusal::BadLength => 1,
+            Refusal::Unsound => 2,
+            Refusal::BadPages => 3,
+            Refusal::NotOpen => 4,
+            Refusal::BadArgument => 5,
+            Refusal::Broken => 6,
+            Refusal::NotThere => 7,
+            Refusal::OwnWrite => 8,
+            Refusal::InWork => 9,
+            Refusal::Conflict => 10,
+            Refusal::NoRoom => 11,
+            Refusal::TooManyOpen => 12,
+            Refusal::NumbersUsed => 13,
+            Refusal::StatementsUsed => 14,
+            Refusal::StillOpen => 15,
+            Refusal::IllFormed => 16,
+            Refusal::InDoubt => 17,
+            Refusal::Spoiled => 18,
+        }
+    }
+}
+
+// The number that the paper gives what a call answers, "0: done".
+pub fn code<T>(answer: &Result<T, Refusal>) -> u32
+    ensures { result ≡ number_of answer.now }
 {
-    match a {
-        Answer::Done => 0,
-        Answer::BadLength => 1,
-        Answer::Unsound => 2,
-        Answer::BadPages => 3,
-        Answer::NotOpen => 4,
-        Answer::BadArgument => 5,
-        Answer::Broken => 6,
-        Answer::NotThere => 7,
-        Answer::OwnWrite => 8,
-        Answer::InWork => 9,
-        Answer::Conflict => 10,
-        Answer::NoRoom => 11,
-        Answer::TooManyOpen => 12,
-        Answer::NumbersUsed => 13,
-        Answer::StatementsUsed => 14,
-        Answer::StillOpen => 15,
-        Answer::IllFormed => 16,
-        Answer::InDoubt => 17,
-        Answer::Spoiled => 18,
+    match answer {
+        Ok(_) => 0,
+        Err(refusal) => u32::from(*refusal),
     }
 }

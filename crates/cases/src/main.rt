@@ -2,194 +2,120 @@
 // on a freshly formatted one. A line for each call: its name, the session and the row, a tab, then the number and the values it answers.
 #![tactic(auto)]
 
-use answer::Answer;
+use answer::Refusal;
 use std::io;
-use words::Words;
+use words::{Layout, Words};
 
 // The bodies that are written: of an insert, and of an update.
 const OLD: [u8; 32] = [b'a'; 32];
 
 const NEW: [u8; 32] = [b'b'; 32];
 
-// The line above a case.
-fn title(rt: &impl Print, name: &str) -> io::Result<()> {
-    println!(rt; "# {name}")
+// A store of one page an area, with the words of its desk. `damaged` has one of its own: a crate for both would be public functions.
+#[derive(Drop)]
+struct Store {
+    data: [u8; 8192],
+    undo: [u8; 8192],
+    status: [u8; 8192],
+    desk: Words,
 }
 
-// The front of a line: the call and the session.
-fn call(rt: &impl Print, name: &str, session: u64) -> io::Result<()> {
-    print!(rt; "{name} {session}")
-}
-
-fn value(rt: &impl Print, before: &str, v: u64) -> io::Result<()> {
-    print!(rt; "{before}{v}")
-}
-
-// The rest of a line that says the number alone.
-fn said(rt: &impl Print, a: Answer) -> io::Result<()> {
-    value(rt, "\t", answer::code(a) as u64)?;
-    println!(rt)
-}
-
-fn begin(
-    rt: &impl Print,
-    data: &[u8],
-    undo: &[u8],
-    status: &mut [u8],
-    desk: &mut Words,
-) -> io::Result<()> {
-    let b = turns::begin(data, undo, status, desk);
-    let a = b.answer;
-    print!(rt; "begin")?;
-    value(rt, "\t", answer::code(a) as u64)?;
-    value(rt, " ", b.number)?;
-    println!(rt)
-}
-
-fn next(
-    rt: &impl Print,
-    data: &[u8],
-    undo: &[u8],
-    status: &[u8],
-    desk: &mut Words,
-    s: u64,
-) -> io::Result<()> {
-    let a = turns::next(data, undo, status, desk, s);
-    call(rt, "next", s)?;
-    said(rt, a)
-}
-
-fn commit(
-    rt: &impl Print,
-    data: &[u8],
-    undo: &[u8],
-    status: &mut [u8],
-    desk: &mut Words,
-    s: u64,
-) -> io::Result<()> {
-    let a = turns::commit(data, undo, status, desk, s);
-    call(rt, "commit", s)?;
-    said(rt, a)
-}
-
-fn insert(
-    rt: &impl Print,
-    data: &mut [u8],
-    undo: &[u8],
-    status: &[u8],
-    desk: &Words,
-    s: u64,
-) -> io::Result<()> {
-    let i = rows::insert(data, undo, status, desk, s, &OLD);
-    let a = i.answer;
-    call(rt, "insert", s)?;
-    value(rt, "\t", answer::code(a) as u64)?;
-    value(rt, " ", i.row as u64)?;
-    println!(rt)
-}
-
-fn update(
-    rt: &impl Print,
-    data: &mut [u8],
-    undo: &mut [u8],
-    status: &[u8],
-    desk: &mut Words,
-    s: u64,
-) -> io::Result<()> {
-    let a = rows::update(data, undo, status, desk, s, 0, &NEW);
-    call(rt, "update", s)?;
-    value(rt, " ", 0)?;
-    said(rt, a)
-}
-
-fn delete<'a>(
-    rt: &impl Print,
-    data: &mut [u8],
-    undo: &'a [u8],
-    status: &'a [u8],
-    desk: &mut Words,
-    s: u64,
-) -> io::Result<()> {
-    let a = rows::delete(data, undo, status, desk, s, 0);
-    call(rt, "delete", s)?;
-    value(rt, " ", 0)?;
-    said(rt, a)
-}
-
-// The number, the versions looked at, and the body, which a refusal leaves out.
-fn read<'a>(
-    rt: &impl Print,
-    data: &'a [u8],
-    undo: &'a [u8],
-    status: &'a [u8],
-    desk: &'a Words,
-    s: u64,
-) -> io::Result<()> {
-    let r = rows::read(data, undo, status, desk, s, 0);
-    let a = r.answer;
-    let place = r.place;
-    call(rt, "read", s)?;
-    value(rt, " ", 0)?;
-    value(rt, "\t", answer::code(a) as u64)?;
-    value(rt, " ", r.looked as u64)?;
-    let body = chain::body(data, undo, place);
-    print!(rt; " ")?;
-    rt.write_all(body)?;
-    println!(rt)
-}
-
-// One call of a case, by its first letter. Begin, next and commit change the words of the desk; update and delete do where they answer 10.
-fn play(
-    rt: &impl Print,
-    data: &mut [u8],
-    undo: &mut [u8],
-    status: &mut [u8],
-    desk: &mut Words,
-    letter: u8,
-    s: u64,
-) -> io::Result<()> {
-    if letter == b'b' {
-        begin(rt, data, undo, status, desk)
-    } else if letter == b'n' {
-        next(rt, data, undo, status, desk, s)
-    } else if letter == b'c' {
-        commit(rt, data, undo, status, desk, s)
-    } else if letter == b'i' {
-        insert(rt, data, undo, status, desk, s)
-    } else if letter == b'u' {
-        update(rt, data, undo, status, desk, s)
-    } else if letter == b'd' {
-        delete(rt, data, undo, status, desk, s)
-    } else {
-        read(rt, data, undo, status, desk, s)
+impl Store {
+    // A freshly formatted store.
+    fn fresh() -> Store {
+        let mut store = Store {
+            data: [0; 8192],
+            undo: [0; 8192],
+            status: [0; 8192],
+            desk: [0; Layout::WORDS],
+        };
+        if let Ok(desk) = keep::format(&mut store.data, &mut store.undo, &mut store.status) {
+            words::put_desk(&mut store.desk, &desk);
+        }
+        store
     }
-}
 
-// A case on a freshly formatted store: its title, and its calls, each a letter and the session's digit.
-fn case(
-    rt: &impl Print,
-    data: &mut [u8],
-    undo: &mut [u8],
-    status: &mut [u8],
-    name: &str,
-    calls: &[u8],
-) -> io::Result<()> {
-    title(rt, name)?;
-    let o = keep::format(data, undo, status);
-    let fresh = o.desk;
-    let mut desk = words::words_of(fresh);
-    for i in 0..calls.len() / 2 {
-        let letter = calls[2 * i];
-        let digit = calls[2 * i + 1];
-        play(
-            rt,
+    // Row 0, read by session s: the number, the versions looked at, and the body, which a refusal leaves out.
+    fn read(&self, rt: &impl Print, s: u64) -> io::Result<()> {
+        let read = rows::read(&self.data, &self.undo, &self.status, &self.desk, s, 0);
+        print!(rt; "read {s} 0\t{}", answer::code(&read))?;
+        match read {
+            Ok(found) => {
+                print!(rt; " {} ", found.looked)?;
+                rt.write_all(chain::body(&self.data, &self.undo, found.place))?;
+            }
+            Err(_) => print!(rt; " 0 ")?,
+        }
+        println!(rt)
+    }
+
+    // A row, made by session s.
+    fn insert(&mut self, rt: &impl Print, s: u64) -> io::Result<()> {
+        let inserted = rows::insert(
+            &mut self.data,
+            &self.undo,
+            &self.status,
+            &self.desk,
+            s,
+            &OLD,
+        );
+        let code = answer::code(&inserted);
+        println!(rt; "insert {s}\t{code} {}", inserted.unwrap_or(0))
+    }
+
+    // One call of session s, by its first letter.
+    fn play(&mut self, rt: &impl Print, letter: u8, s: u64) -> io::Result<()> {
+        let Store {
             data,
             undo,
             status,
-            &mut desk,
-            letter,
-            (digit % 16) as u64,
-        )?;
+            desk,
+        } = self;
+        match letter {
+            b'b' => {
+                let begun = turns::begin(data, undo, status, desk);
+                let code = answer::code(&begun);
+                println!(rt; "begin\t{code} {}", begun.unwrap_or(0))
+            }
+            b'n' => said(rt, "next", s, "", &turns::next(data, undo, status, desk, s)),
+            b'c' => said(
+                rt,
+                "commit",
+                s,
+                "",
+                &turns::commit(data, undo, status, desk, s),
+            ),
+            b'i' => self.insert(rt, s),
+            b'u' => {
+                let updated = rows::update(data, undo, status, desk, s, 0, &NEW);
+                said(rt, "update", s, " 0", &updated)
+            }
+            b'd' => {
+                let deleted = rows::delete(data, undo, status, desk, s, 0);
+                said(rt, "delete", s, " 0", &deleted)
+            }
+            _ => self.read(rt, s),
+        }
+    }
+}
+
+// A line that says the number alone: the call, its session, and the row where it has one.
+fn said(
+    rt: &impl Print,
+    call: &str,
+    s: u64,
+    row: &str,
+    answered: &Result<(), Refusal>,
+) -> io::Result<()> {
+    println!(rt; "{call} {s}{row}\t{}", answer::code(answered))
+}
+
+// A case on a freshly formatted store: its title, and its calls, each a letter and the session's digit.
+fn case(rt: &impl Print, name: &str, calls: &[u8]) -> io::Result<()> {
+    println!(rt; "# {name}")?;
+    let mut store = Store::fresh();
+    for call in calls.chunks_exact(2) {
+        store.play(rt, call[0], (call[1] % 16) as u64)?;
     }
     Ok(())
 }
@@ -197,63 +123,23 @@ fn case(
 // A session's own writes. P5: "own insert isn't there in its own statement", so its update answers 7. P6: "it is there in the next".
 // P7: "own delete still shows in its statement"; a second one is 8. P8: "a second update in one statement: 8"; in the next it goes on.
 fn own_writes(rt: &impl Print) -> io::Result<()> {
-    let mut data = [0; 8192];
-    let mut undo = [0; 8192];
-    let mut status = [0; 8192];
-    case(
-        rt,
-        &mut data,
-        &mut undo,
-        &mut status,
-        "P5, P6: an own insert",
-        b"b1i1r1u1n1r1u1",
-    )?;
-    case(
-        rt,
-        &mut data,
-        &mut undo,
-        &mut status,
-        "P7: an own delete",
-        b"b1i1c1b2d2r2d2n2r2d2",
-    )?;
-    case(
-        rt,
-        &mut data,
-        &mut undo,
-        &mut status,
-        "P8: an own update",
-        b"b1i1c1b2u2u2r2n2u2r2",
-    )
+    case(rt, "P5, P6: an own insert", b"b1i1r1u1n1r1u1")?;
+    case(rt, "P7: an own delete", b"b1i1c1b2d2r2d2n2r2d2")?;
+    case(rt, "P8: an own update", b"b1i1c1b2u2u2r2n2u2r2")
 }
 
 // Another session's. "Another expirer: 10 if committed, else 9"; "creator .. seen: go on; otherwise 10 if committed, else 9". The expirer is
 // looked at first: the creator committed after session 3 began, the expirer is in work, so 9. After its 10 session 3 may only read and
 // withdraw: "insert, update, delete, next and commit answer 18" ("02, T-07").
 fn other_writes(rt: &impl Print) -> io::Result<()> {
-    let mut data = [0; 8192];
-    let mut undo = [0; 8192];
-    let mut status = [0; 8192];
+    case(rt, "9, 10: another's delete", b"b1i1c1b2b3d2d3c2u3r3")?;
     case(
         rt,
-        &mut data,
-        &mut undo,
-        &mut status,
-        "9, 10: another's delete",
-        b"b1i1c1b2b3d2d3c2u3r3",
-    )?;
-    case(
-        rt,
-        &mut data,
-        &mut undo,
-        &mut status,
         "9, 10, 18: another's update",
         b"b1i1c1b2b3u2u3c2d3n3i3u3d3c3r3b4u4",
     )?;
     case(
         rt,
-        &mut data,
-        &mut undo,
-        &mut status,
         "9: the expirer before the creator",
         b"b1i1c1b2b3u2c2b4d4d3",
     )

@@ -43,7 +43,7 @@ body_most (Undo e) d u = none_or (ltb e (entries u)) (copy_body_at e u) (copy_bo
 
 -- what is handed back, and where it begins
 abbrev Handed : Place → List ℕ → List ℕ → ℕ × ℕ → ℕ × ℕ → List ℕ → ℕ × ℕ → Type 0
-Handed place d u pd pu b pb = (b ≡ body_of place d u) × (pb ≡ body_from place d u pd pu)
+Handed place d u pd pu b pb = record { holds : b ≡ body_of place d u; lies : pb ≡ body_from place d u pd pu }
 
 -- the empty part at the beginning of an area
 nothing : (p : ℕ × ℕ) → ◌≡◌ {A = ℕ × ℕ} (p.0, 0 + p.1) p
@@ -54,27 +54,37 @@ module _ {place : Place} (d u : List ℕ) (pd pu : ℕ × ℕ) where
   pub hand_slot : {at n : ℕ} (r : ℕ) → place ≡ Data r → n ≡ rows d → r < n → at ≡ slot_place r
       → Handed place d u pd pu (take (at + 32 + 32 - (at + 32)) (drop (at + 32) d)) (pd.0, at + 32 + pd.1)
   unfolding body_of body_from
-  hand_slot {at} r is all inside found = (
-    rw (is, lt-ltb r (rows d) (omega arith)) (body_at_cut r d found),
-    rw (is, lt-ltb r (rows d) (omega arith)) (ap (λ (n : ℕ). (pd.0, n)) (omega arith)),
-  )
+  hand_slot {at} r is all inside found =
+      record {
+        holds = rw (is, lt-ltb r (rows d) (omega arith)) (body_at_cut r d found);
+        lies = rw (is, lt-ltb r (rows d) (omega arith)) (ap (λ (n : ℕ). (pd.0, n)) (omega arith));
+      }
 
   pub hand_copy : {at n : ℕ} (e : ℕ) → place ≡ Undo e → n ≡ entries u → e < n → at ≡ entry_place e
       → Handed place d u pd pu (take (at + 48 + 32 - (at + 48)) (drop (at + 48) u)) (pu.0, at + 48 + pu.1)
   unfolding body_of body_from
-  hand_copy {at} e is all inside found = (
-    rw (is, lt-ltb e (entries u) (omega arith)) (copy_body_at_cut e u found),
-    rw (is, lt-ltb e (entries u) (omega arith)) (ap (λ (n : ℕ). (pu.0, n)) (omega arith)),
-  )
+  hand_copy {at} e is all inside found =
+      record {
+        holds = rw (is, lt-ltb e (entries u) (omega arith)) (copy_body_at_cut e u found);
+        lies = rw (is, lt-ltb e (entries u) (omega arith)) (ap (λ (n : ℕ). (pu.0, n)) (omega arith));
+      }
 
   pub hand_none : place ≡ Nowhere → Handed place d u pd pu [] (pd.0, 0 + pd.1)
   unfolding body_of body_from
-  hand_none is = (rw is, rw is (nothing pd))
+  hand_none is = record { holds = rw is; lies = rw is (nothing pd) }
 
   pub hand_no_slot : {n : ℕ} (r : ℕ) → place ≡ Data r → n ≡ rows d → n ≤ r → Handed place d u pd pu [] (pd.0, 0 + pd.1)
   unfolding body_of body_from
-  hand_no_slot r is all outside = (rw (is, le-ltb r (rows d) (omega arith)), rw (is, le-ltb r (rows d) (omega arith)) (nothing pd))
+  hand_no_slot r is all outside =
+      record {
+        holds = rw (is, le-ltb r (rows d) (omega arith));
+        lies = rw (is, le-ltb r (rows d) (omega arith)) (nothing pd);
+      }
 
   pub hand_no_copy : {n : ℕ} (e : ℕ) → place ≡ Undo e → n ≡ entries u → n ≤ e → Handed place d u pd pu [] (pd.0, 0 + pd.1)
   unfolding body_of body_from
-  hand_no_copy e is all outside = (rw (is, le-ltb e (entries u) (omega arith)), rw (is, le-ltb e (entries u) (omega arith)) (nothing pd))
+  hand_no_copy e is all outside =
+      record {
+        holds = rw (is, le-ltb e (entries u) (omega arith));
+        lies = rw (is, le-ltb e (entries u) (omega arith)) (nothing pd);
+      }

@@ -238,6 +238,19 @@ module _ (u : List ℕ) (r : ℕ) (p : Slot → Bool) where
       → first_in p n (chain_from u r fuel [] ptr).versions (chain_from u r fuel [] ptr).whole ≡ run fuel n (link_of u r ptr)
   chain_run fuel n ptr = seek_chain fuel [] n ptr ∙ seek_run fuel n [] ptr (none (link_of u r ptr))
 
+  -- ---- where the walk ends without a version
+
+  module _ (n : ℕ) (l : Link) where
+    pub run_ended : l ≡ End → (fuel : ℕ) → run fuel n l ≡ Absent
+    unfolding run
+    run_ended is zero = rw is
+    run_ended is (suc fuel) = rw is
+
+    pub run_broke : l ≡ Break → (fuel : ℕ) → run fuel n l ≡ Broken
+    unfolding run
+    run_broke is zero = rw is
+    run_broke is (suc fuel) = rw is
+
   -- ---- the steps of a walk of at most `most` entries, with n versions looked at, the slot among them
 
   module _ (most n : ℕ) where

@@ -98,16 +98,26 @@ module _ {lead : Lead} (u : List ℕ) (r ptr : ℕ) (is : lead ≡ lead_of (page
   unfolding link_of
   link_astray h = ap (link_at u r) (sym h ∙ is)
 
-  module _ {m : Entry} (e : ℕ) (to : lead ≡ ToEntry e) (read : m ≡ entry_at e u) where
+  module _ {m : Entry} (e : ℕ) (to : lead ≡ ToEntry e) (stands : m ≡ entry_at e u) where
     entry_link : link_of u r ptr ≡ cond (unfit r m) Break (To e m)
     unfolding link_of
-    entry_link = rw read (ap (link_at u r) (sym is ∙ to))
-
-    pub link_unfit : unfit r m ≡ true → Break ≡ link_of u r ptr
-    link_unfit h = rw (entry_link, h)
+    entry_link = rw stands (ap (link_at u r) (sym is ∙ to))
 
     pub link_to : unfit r m ≡ false → To e m ≡ link_of u r ptr
     link_to h = rw (entry_link, h)
+
+  -- where m was read at that byte, by the tests of the code
+  module _ {at e : ℕ} {m : Entry} (to : lead ≡ ToEntry e) (place : at ≡ place_led ptr) (read : m ≡ entry_of (part at 80 u)) where
+    abbrev fails : Bool
+    fails = eqb m.writer 0 || not (eqb m.row r) || eqb m.copy.create 0
+
+    pub read_unfit : fails ≡ true → Break ≡ link_of u r ptr
+    unfolding unfit
+    read_unfit h = rw (entry_link e to (link_read u ptr e is to place read), h)
+
+    pub read_to : fails ≡ false → To e m ≡ link_of u r ptr
+    unfolding unfit
+    read_to h = link_to e to (link_read u ptr e is to place read) h
 
 -- ---- what a link says
 

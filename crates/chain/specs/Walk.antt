@@ -10,6 +10,7 @@ use Rattle.sight.specs.declared.Stamp.{Stamp}
 use Rattle.sight.specs.Sight.{there}
 use Rattle.chain.specs.declared.Place.{Place}
 use Rattle.chain.specs.declared.Place.TheVariants.{Nowhere, Data, Undo}
+use Rattle.chain.specs.declared.Found.{Found as AtPlace}
 use Rattle.chain.specs.declared.Link.{Link}
 use Rattle.chain.specs.declared.Link.TheVariants.{End, Break, To}
 use Rattle.chain.specs.declared.Walk.{Walk}
@@ -19,6 +20,10 @@ use Rattle.chain.specs.Chain.{Version, chain_from, chain_of}
 -- what sight looks at in a slot or a slot copy
 abbrev pub stamp_of : Slot → Stamp
 stamp_of m = record { create = m.create; expire = m.expire; cmd = m.cmd; expire_cmd = m.expire_cmd }
+
+-- a version found at a place, with the versions looked at
+abbrev pub found_at : Place → ℕ → AtPlace
+found_at place n = record { place = place; looked = n }
 
 -- the first version that passes, with the versions looked at, n before these; where none does, whether the chain was whole
 unfoldable pub first_in : (Slot → Bool) → ℕ → List Version → Bool → Walk

@@ -1,19 +1,22 @@
--- A column without some places, as the loop makes it that pulls later places up, and by what stands where; a copied list; and the
--- smallest, in the steps of a loop. Assumes nothing.
-use mathlib.Core.Path.{◌≡◌, refl, sym, ap, ◌∙◌}
-use mathlib.Core.Bool.{true, false, not, ◌&&◌}
+-- A column without some places, as copying later ones down makes it, and by what stands where; a copied list; and the smallest, as a
+-- fold over the used places. Assumes nothing.
+use mathlib.Core.Path.{◌≡◌, refl, sym, ap, ap₂, ◌∙◌}
+use mathlib.Core.Bool.{Bool, true, false, not, ◌&&◌, cond}
 use mathlib.Core.List.{List, [], ◌∷◌, ◌++◌, append-nil}
-use mathlib.Core.Logic.{◌⊎◌, inl, inr, ⊎_elim}
-use Prim.Native.Nat.{ℕ, zero, suc, ◌+◌, ◌-◌, ◌≤◌, ◌<◌}
-use native.Mathlib.Nat.{eq-or-lt_of_le, zero-add}
+use mathlib.Core.Logic.{◌⊎◌, inl, inr}
+use Prim.Native.Nat.{ℕ, zero, suc, ◌+◌, ◌-◌, ◌≤◌, ◌<◌, min}
+use native.Mathlib.Nat.{zero-add}
 use native.Mathlib.Numerals.{add-one}
 use native.Mathlib.Omega.{arith}
-use lib.ListN.{length, get_or, set, take, drop, replicate, length-set, length-append, length-drop, length-replicate}
-use lib.ListN.{get_or-eq_default, get_or-append, drop_of_length-le}
-use lib.Seq.{sets, paste, sets-eq, length-take-le, get_or-take, get_or-drop, get_or-append-add, get_or-set_same, get_or-set_other, ext_get_or}
-use lib.Seq.{drop-cons, paste-suc, drop-append-le, drop_at, take_at}
+use lib.ListN.{length, get_or, set, take, drop, replicate, length-append, length-drop, length-replicate}
+use lib.ListN.{get_or-append, drop_of_length-le}
+use lib.Seq.{sets, sets-eq, length-take-le, get_or-take, get_or-drop, get_or-append-add, get_or-set_other}
+use lib.Seq.{paste-suc, drop-append-le, drop_at, take_at, take_all, take-paste, length-paste}
 use lib.Dec.{eqb, ltb}
-use Rattle.ground.proofs.Ranges.{lt_or_le}
+use borrow.Author.Tests.{ltb-true, ltb-false}
+use borrow.Rule.Slice.PartMut.{put_mid}
+use Rattle.std.specs.List.{copy_within, fold, filter}
+use Rattle.std.proofs.lemmas.Slice.{put_mid-paste}
 use Rattle.columns.specs.Columns.{without, smallest}
 
 -- ---- a column without the w places from `at` on, by what stands where
@@ -54,100 +57,44 @@ module _ (at w : ℕ) (l : List ℕ) (fits : at + w ≤ length l) where
       ∙ get_or-drop (at + w) l (i - at) 0
       ∙ ap (λ (n : ℕ). get_or l n 0) later
 
--- ---- pulling later places up
-
--- what the loop makes of l that stores at i what stands w later, with n turns left
-unfoldable pub pull : ℕ → ℕ → ℕ → List ℕ → List ℕ
-pull w zero i l = l
-pull w (suc n) i l = pull w n (suc i) (set l i (get_or l (i + w) 0))
-
-length_pull : (w n i : ℕ) (l : List ℕ) → length (pull w n i l) ≡ length l
-unfolding pull
-length_pull w zero i l = refl
-length_pull w (suc n) i l =
-    length_pull w n (suc i) (set l i (get_or l (i + w) 0)) ∙ length-set l i (get_or l (i + w) 0)
-
-pull_before : (w n i : ℕ) (l : List ℕ) (j : ℕ) → j < i → get_or (pull w n i l) j 0 ≡ get_or l j 0
-unfolding pull
-pull_before w zero i l j h = refl
-pull_before w (suc n) i l j h =
-    pull_before w n (suc i) (set l i (get_or l (i + w) 0)) j (omega arith)
-    ∙ get_or-set_other l i j (get_or l (i + w) 0) 0 (λ (e : j ≡ i). omega arith)
-
-pull_after : (w n i : ℕ) (l : List ℕ) (j : ℕ)
-    → i ≤ j
-    → j < i + n
-    → i + n ≤ length l
-    → get_or (pull w n i l) j 0 ≡ get_or l (j + w) 0
-unfolding pull
-pull_after w zero i l j h m f = absurd (omega arith)
-pull_after w (suc n) i l j h m f =
-    let next : List ℕ = set l i (get_or l (i + w) 0) in
-    let long : length next ≡ length l = length-set l i (get_or l (i + w) 0) in
-    ⊎_elim
-    (λ (e : i ≡ j).
-    pull_before w n (suc i) next j (omega arith)
-    ∙ ap (λ (k : ℕ). get_or next k 0) (sym e)
-    ∙ get_or-set_same l i (get_or l (i + w) 0) 0 (omega arith)
-    ∙ ap (λ (k : ℕ). get_or l (k + w) 0) e)
-    (λ (q : i < j).
-    pull_after w n (suc i) next j (omega arith) (omega arith) (omega arith)
-    ∙ get_or-set_other l i (j + w) (get_or l (i + w) 0) 0 (λ (e : j + w ≡ i). omega arith))
-    (eq-or-lt_of_le h)
-
-pub pull_long : (w n i m j : ℕ) (l k : List ℕ) → pull w n i l ≡ pull w m j k → length l ≡ length k
-pull_long w n i m j l k e = sym (length_pull w n i l) ∙ ap (λ (r : List ℕ). length r) e ∙ length_pull w m j k
-
--- all turns done
-pub pull_without : (w at n : ℕ) (l : List ℕ) → at + w ≤ n → length l ≡ n → pull w (n - at) at l ≡ without at w l
-pull_without w at n l f e =
-    let long : length (pull w (n - at) at l) ≡ length (without at w l)
-    = length_pull w (n - at) at l ∙ sym (length_without at w l (omega arith)) in
-    ext_get_or 0 (pull w (n - at) at l) (without at w l) long each
-  where
-    each : (i : ℕ) → i < length (pull w (n - at) at l) → get_or (pull w (n - at) at l) i 0 ≡ get_or (without at w l) i 0
-    each i h = ⊎_elim before after (lt_or_le i at)
-      where
-        before : i < at → get_or (pull w (n - at) at l) i 0 ≡ get_or (without at w l) i 0
-        before q = pull_before w (n - at) at l i q ∙ sym (without_before at w l (omega arith) i q)
-
-        after : at ≤ i → get_or (pull w (n - at) at l) i 0 ≡ get_or (without at w l) i 0
-        after q =
-            pull_after w (n - at) at l i q (omega (arith, length_pull w (n - at) at l)) (omega arith)
-            ∙ sym (without_after at w l (omega arith) i q)
-
--- a turn, at i of n: what is stored is what stands w later, or behind the last place 0
-module _ (w n i : ℕ) (l : List ℕ) (h : i < n) where
-  pub pull_up : {x : ℕ} → x ≡ get_or l (i + w) 0 → pull w (n - (i + 1)) (i + 1) (set l i x) ≡ pull w (n - i) i l
-  unfolding pull
-  pull_up e = let s : n - i ≡ suc (n - (i + 1)) = omega arith in rw (s, e, add-one)
-
-  pub pull_zero : {x : ℕ} → length l ≡ n → n ≤ i + w → x ≡ 0 → pull w (n - (i + 1)) (i + 1) (set l i x) ≡ pull w (n - i) i l
-  pull_zero long past e = pull_up (e ∙ sym (get_or-eq_default l 0 (omega arith)))
-
-pub pull_end : (w n i : ℕ) (l : List ℕ) → n ≤ i → pull w (n - i) i l ≡ l
-unfolding pull
-pull_end w n i l h = let s : n - i ≡ 0 = omega arith in rw s
+-- later places copied down over those from `at` on, and zeros written over what is left behind them
+pub pulled : (at w : ℕ) (l moved zeros : List ℕ)
+    → at + w ≤ length l
+    → moved ≡ copy_within l (at + w) (length l) at
+    → zeros ≡ replicate (length (take (length moved - (length l - w)) (drop (length l - w) moved))) 0
+    → put_mid (length l - w) (length moved - (length l - w)) moved zeros ≡ without at w l
+unfolding without
+pulled at w l moved zeros fits moves clears =
+    let later : List ℕ = drop (at + w) l in
+    let many : ℕ = length l - (at + w) in
+    let all : length later ≡ many = length-drop (at + w) l in
+    let kept : at + many ≡ length l - w = omega arith in
+    let long : length moved ≡ length l = ap length moves ∙ length-paste l at later many (omega arith) (omega arith) in
+    let front : take (length l - w) moved ≡ take at l ++ later
+    = ap₂ take (sym kept) moves
+    ∙ take-paste l at later many (omega arith) (omega arith)
+    ∙ ap (λ (k : List ℕ). take at l ++ k) (take_all many later (omega arith)) in
+    let rest : List ℕ = drop (length l - w) moved in
+    let left : length rest ≡ w = length-drop (length l - w) moved ∙ omega arith in
+    let none : drop (length moved - (length l - w)) rest ≡ [] = drop_of_length-le rest (omega arith) in
+    let many_zeros : length (take (length moved - (length l - w)) rest) ≡ w = ap length (take_all (length moved - (length l - w)) rest (omega arith)) ∙ left in
+    ap₂ (λ (a b : List ℕ). a ++ (zeros ++ b)) front none
+    ∙ ap (λ (z : List ℕ). take at l ++ later ++ z) (append-nil zeros ∙ clears ∙ ap (λ (n : ℕ). replicate n 0) many_zeros)
 
 -- ---- a copied list
 
--- a turn, after i of them
-pub paste_next : (d : List ℕ) (at : ℕ) (s : List ℕ) (i : ℕ) (l : List ℕ)
-    → l ≡ paste d at s i
-    → at + i < length d
-    → i < length s
-    → set l (at + i) (get_or s i 0) ≡ paste d at s (i + 1)
-paste_next d at s i l e fd fs = rw (e, add-one) (paste-suc d at s i 0 fd fs)
+-- all of it in one write to a part of d
+pub put_mid_sets : (d : List ℕ) (at k : ℕ) (vs ys : List ℕ)
+    → ys ≡ vs
+    → k ≡ length vs
+    → at + length vs ≤ length d
+    → put_mid at k d ys ≡ sets d at vs
+put_mid_sets d at k vs ys same long fits =
+    put_mid-paste at k d ys vs k same refl long
+    ∙ ap₂ (λ (s : List ℕ) (n : ℕ). take at d ++ s ++ drop (at + n) d) (take_all k vs (omega arith)) long
+    ∙ sym (sets-eq vs d at fits)
 
-pub paste_sets : (d : List ℕ) (at : ℕ) (s : List ℕ) (n : ℕ)
-    → at + n ≤ length d
-    → n ≤ length s
-    → paste d at s n ≡ sets d at (take n s)
-paste_sets d at s n fd fs =
-    let long : length (take n s) ≡ n = length-take-le n s fs in
-    sym (sets-eq (take n s) d at (omega arith) ∙ ap (λ (k : ℕ). take at d ++ take n s ++ drop (at + k) d) long)
-
--- the first i places of s from `at` on, before what d has behind them: a turn, and all turns done
+-- the first i places of s from `at` on, before what d has behind them: a turn
 pub part_next : (d s : List ℕ) (at i : ℕ) (l : List ℕ)
     → l ≡ take i (drop at s) ++ drop i d
     → i < length d
@@ -156,9 +103,6 @@ pub part_next : (d s : List ℕ) (at i : ℕ) (l : List ℕ)
 part_next d s at i l e fd fs =
     let turn = paste-suc d 0 (drop at s) i 0 (omega arith) (omega (arith, length-drop at s)) in
     rw (e, add-one, ← get_or-drop at s i 0) (simp zero-add at turn)
-
-pub part_end : (d s : List ℕ) (at i : ℕ) → length d ≤ i → take i (drop at s) ++ drop i d ≡ take i (drop at s)
-part_end d s at i past = rw (drop_of_length-le d past) (append-nil (take i (drop at s)))
 
 -- ---- a list stored over a column, by what stands where
 
@@ -184,21 +128,19 @@ sets_part vs l i n e h =
     rw (sets-eq vs l i (omega arith), drop-append-le i (take i l ++ vs) rest fits, drop_at (take i l) vs i long)
     (take_at vs rest n e)
 
--- ---- the smallest, at i of the places
-
-module _ (m : ℕ) (l : List ℕ) (i : ℕ) (h : i < length l) where
-  pub smallest_take : (x : ℕ)
-      → x ≡ get_or l i 0
-      → (not (eqb (get_or l i 0) 0) && ltb (get_or l i 0) m) ≡ true
-      → smallest x (drop (i + 1) l) ≡ smallest m (drop i l)
-  unfolding smallest
-  smallest_take x q e = rw (drop-cons l i 0 h, add-one, e, q)
-
-  pub smallest_pass : (not (eqb (get_or l i 0) 0) && ltb (get_or l i 0) m) ≡ false
-      → smallest m (drop (i + 1) l) ≡ smallest m (drop i l)
-  unfolding smallest
-  smallest_pass e = rw (drop-cons l i 0 h, add-one, e)
-
-pub smallest_end : (m : ℕ) (l : List ℕ) (i : ℕ) → length l ≤ i → smallest m (drop i l) ≡ m
+-- the smallest, as a fold over the used places
+pub smallest_fold : (m : ℕ) (l : List ℕ) → fold (λ (low x : ℕ). min low x) m (filter (λ x. not (eqb x 0)) l) ≡ smallest m l
 unfolding smallest
-smallest_end m l i h = rw (drop_of_length-le l h)
+smallest_fold m [] = refl
+smallest_fold m (x ∷ l) = by (eqb x 0) (ltb x m) refl (smallest_fold m l) (smallest_fold x l)
+  where
+    used : List ℕ
+    used = filter (λ y. not (eqb y 0)) l
+
+    by : (none less : Bool) → ltb x m ≡ less
+        → fold (λ (low y : ℕ). min low y) m used ≡ smallest m l
+        → fold (λ (low y : ℕ). min low y) x used ≡ smallest x l
+        → fold (λ (low y : ℕ). min low y) m (cond (not none) (x ∷ used) used) ≡ cond (not none && less) (smallest x l) (smallest m l)
+    by true less is same lower = same
+    by false true is same lower = let low : min m x ≡ x = omega (arith, ltb-true x m is) in ap (λ (n : ℕ). fold (λ (a y : ℕ). min a y) n used) low ∙ lower
+    by false false is same lower = let low : min m x ≡ m = omega (arith, ltb-false x m is) in ap (λ (n : ℕ). fold (λ (a y : ℕ). min a y) n used) low ∙ same

@@ -2,53 +2,45 @@
 // it is to sight.
 #![tactic(auto)]
 
-ghost use Rattle.std.specs.Prelude.{◌≡◌, length};
-ghost use Rattle.answer.specs.Code.{code_of};
-ghost use Rattle.kind.specs.Kind.{page_size};
-ghost use Rattle.sight.specs.Sight.{view_of};
+ghost use Rattle.std.specs.Prelude.{◌≡◌};
+ghost use Rattle.answer.specs.Code.{code_of, number_of};
+ghost use Rattle.sight.specs.Sight.{said_view};
 ghost use Rattle.sight.specs.Conflict.{of_another, conflict_of};
 
-use answer::Answer;
-use sight::Stamp;
+use answer::Refusal;
+use sight::{Stamp, StatusPage, View};
 
 // What a version says that another session made or ended: "10 if committed, else 9".
-fn another(status: &[u8], x: u64) -> Answer
-    requires { length status.now ≡ page_size }
-    ensures { code_of result ≡ of_another status.now x }
+#[tactic(auto, using(crate::proofs::Conflicts::another_committed, crate::proofs::Conflicts::another_open))]
+fn another(status: StatusPage, x: u64) -> Refusal
+    ensures { code_of result ≡ of_another status.entry.bytes.now x }
 {
-    if sight::is_committed(status, x) {
-        Answer::Conflict
+    if status.is_committed(x) {
+        Refusal::Conflict
     } else {
-        Answer::InWork
+        Refusal::InWork
     }
 }
 
 // "Once 7 is passed, look at the slot." Done where the session may write. The expirer is looked at before the creator.
 #[tactic(auto, using(crate::proofs::Conflicts::conflict_own_expirer, crate::proofs::Conflicts::conflict_expirer, crate::proofs::Conflicts::conflict_earlier, crate::proofs::Conflicts::conflict_own, crate::proofs::Conflicts::conflict_seen, crate::proofs::Conflicts::conflict_unseen))]
-pub fn conflict_of<'a>(
-    number: u64,
-    statement: u32,
-    list: &'a [u32],
-    status: &'a [u8],
-    t: Stamp,
-) -> Answer
-    requires { length status.now ≡ page_size }
-    ensures { code_of result ≡ conflict_of (view_of number statement list.now) status.now t }
+pub fn conflict_of(view: View, status: StatusPage, t: Stamp) -> Result<(), Refusal>
+    ensures { number_of result ≡ conflict_of (said_view view.entry) status.entry.bytes.now t }
 {
     if t.expire != 0 {
-        if t.expire == number {
-            return Answer::OwnWrite;
+        if t.expire == view.number {
+            return Err(Refusal::OwnWrite);
         }
-        return another(status, t.expire);
+        return Err(another(status, t.expire));
     }
-    if t.create == number {
-        if t.cmd < statement {
-            return Answer::Done;
+    if t.create == view.number {
+        if t.cmd < view.statement {
+            return Ok(());
         }
-        return Answer::OwnWrite;
+        return Err(Refusal::OwnWrite);
     }
-    if sight::does_see(number, list, status, t.create) {
-        return Answer::Done;
+    if view.sees(status, t.create) {
+        return Ok(());
     }
-    another(status, t.create)
+    Err(another(status, t.create))
 }

@@ -1,6 +1,6 @@
 -- Laws of CRC32C: a checksum of two parts is that of the first carried on over the second; it fits 32 bits; eight steps are one
--- look at the table; and what a loop over bytes computes. Assumes nothing.
-use mathlib.Core.Path.{◌≡◌, refl, sym, ap, ap₂, ◌∙◌}
+-- look at the table; and what a fold or a loop over bytes computes, of one run or of four. Assumes nothing.
+use mathlib.Core.Path.{◌≡◌, refl, sym, ap, ap₂, subst, ◌∙◌}
 use mathlib.Core.List.{List, [], ◌∷◌, ◌++◌}
 use Prim.Native.Nat.{ℕ, zero, suc, ◌+◌, ◌*◌, ◌/◌, ◌%◌, ◌^◌, ◌<◌, ◌≤◌}
 use native.Mathlib.Nat.{pow-suc, mul_assoc, mul-one, add-zero, zero-add, add-suc, suc-add, le_of_suc-le-suc, not-suc-le-zero}
@@ -9,9 +9,14 @@ use native.Mathlib.Omega.{arith}
 use lib.Bits.{bit_xor, xor_lt, xor_self, xor_zero_r}
 use lib.ListN.{length, get_or, drop, drop_of_length-le}
 use lib.Seq.{drop-cons}
+use Rattle.std.proofs.lemmas.List as list
+use Rattle.std.specs.Prelude.{map}
+use Rattle.std.specs.List.{fold}
+use Rattle.std.proofs.Common.{Bor}
+use Rattle.std.proofs.Math.ListN.{get_or-map}
+use Rattle.crc.specs.Abreast.{OneLength}
 use Rattle.crc.specs.Crc.{poly, filled, step_by, step, steps, byte_step, run, crc_more, crc_of}
 use Rattle.crc.specs.Table.{tab_from, step_table}
-use Rattle.crc.specs.declared.Four.{Four}
 use Rattle.crc.proofs.XorLaws.{xor_half, xor_odd, xor_assoc, xor_swap, xor_twice, xor_pairs, xor_parts}
 
 -- ---- a list in two parts
@@ -109,9 +114,6 @@ steps_shifted (suc n) y =
 pub steps_xor : (n s y : ℕ) → steps n (bit_xor s (y * 2 ^ n)) ≡ bit_xor (steps n s) y
 steps_xor n s y = steps_both n s (y * 2 ^ n) ∙ ap (bit_xor (steps n s)) (steps_shifted n y)
 
-steps_byte : (x : ℕ) → steps 8 x ≡ bit_xor (steps 8 (x % 256)) (x / 256)
-steps_byte x = ap (steps 8) (xor_parts x 8) ∙ steps_xor 8 (x % 256) (x / 256)
-
 tab_from_lem : (f : ℕ → ℕ) (n i k : ℕ) → k < n → get_or (tab_from f i n) k 0 ≡ f (i + k)
 unfolding tab_from
 tab_from_lem f zero i k h = absurd (not-suc-le-zero h)
@@ -123,55 +125,73 @@ pub step_table_at : (i : ℕ) → i < 256 → get_or step_table i 0 ≡ steps 8 
 unfolding step_table
 step_table_at i h = tab_from_lem (steps 8) 256 0 i h ∙ ap (steps 8) (zero-add i)
 
--- one look at the table is a byte
-pub byte_step_by : (t : List ℕ) (c b : ℕ) → t ≡ step_table → bit_xor (get_or t (bit_xor c b % 256) 0) (bit_xor c b / 256) ≡ byte_step c b
+-- one look at the table, at x, is a byte
+pub byte_step_by : {x : ℕ} (t : List ℕ) (c b : ℕ) → t ≡ step_table → b < 256 → x ≡ bit_xor (c % 256) b → bit_xor (get_or t x 0) (c / 256) ≡ byte_step c b
 unfolding byte_step
-byte_step_by t c b e =
-    ap (λ (x : ℕ). bit_xor x (bit_xor c b / 256))
-    (ap (λ (l : List ℕ). get_or l (bit_xor c b % 256) 0) e ∙ step_table_at (bit_xor c b % 256) (omega arith))
-    ∙ sym (steps_byte (bit_xor c b))
+byte_step_by {x} t c b e fits at =
+    ap (λ (y : ℕ). bit_xor y (c / 256))
+    (ap (λ (l : List ℕ). get_or l x 0) e ∙ step_table_at x low ∙ ap (steps 8) at)
+    ∙ sym (steps_xor 8 (bit_xor (c % 256) b) (c / 256))
+    ∙ ap (steps 8) (xor_swap (c % 256) b (c / 256 * 2 ^ 8) ∙ ap (λ (y : ℕ). bit_xor y b) (sym (xor_parts c 8)))
+  where
+    low : x < 256
+    low = subst (λ (y : ℕ). y < 256) (sym at) (xor_lt 8 (c % 256) b (omega arith) fits)
 
 -- ---- a loop over the bytes of a list
 
--- what is known at its head: the register c, at the place i, comes over the rest to what c₀ comes to over the whole list
-pub record Going (c₀ : ℕ) (s : List ℕ) (i c : ℕ) : Type 0 where
-  pub within : i ≤ length s
-  pub small : c < 2 ^ 32
-  pub rest : run c (drop i s) ≡ run c₀ s
-
-pub going_start : (c₀ : ℕ) (s : List ℕ) → c₀ < 2 ^ 32 → Going c₀ s 0 c₀
-going_start c₀ s h = record { within = omega arith; small = h; rest = refl }
-
-pub going_next : {c₀ i c r : ℕ} (s : List ℕ)
-    → Going c₀ s i c
-    → i < length s
-    → (r ≡ byte_step c (get_or s i 0)) × (r < 2 ^ 32)
-    → Going c₀ s (i + 1) r
+-- the next byte worked
+pub run_next : {r c₀ : ℕ} (c : ℕ) (s : List ℕ) (i : ℕ) → run c (drop i s) ≡ c₀ → i < length s → r ≡ byte_step c (get_or s i 0) → run r (drop (i + 1) s) ≡ c₀
 unfolding run
-going_next {c₀} {i} {c} {r} s g h (e, l) =
-    record {
-      within = omega arith;
-      small = l;
-      rest =
-          ap (λ (x : ℕ). run x (drop (i + 1) s)) e
-          ∙ sym (ap (run c) (drop-cons s i 0 h ∙ ap (λ (n : ℕ). get_or s i 0 ∷ drop n s) (sym (add-one i))))
-          ∙ g.rest;
-    }
+run_next c s i going h e =
+    ap (λ (x : ℕ). run x (drop (i + 1) s)) e
+    ∙ sym (ap (run c) (drop-cons s i 0 h ∙ ap (λ (n : ℕ). get_or s i 0 ∷ drop n s) (sym (add-one i))))
+    ∙ going
 
--- behind the last byte, for the checksum from which c₀ was made and the one that is made of c
-pub going_end : {c₀ i c r : ℕ} (crc : ℕ) (s : List ℕ)
-    → Going c₀ s i c
-    → length s ≤ i
-    → c₀ ≡ bit_xor crc filled
-    → r ≡ bit_xor c filled
-    → r ≡ crc_more crc s
-unfolding run crc_more
-going_end {c₀} {i} {c} crc s g h e q =
-    q ∙ ap (λ (x : ℕ). bit_xor x filled) (sym (ap (run c) (drop_of_length-le s h)) ∙ g.rest ∙ ap (λ (x : ℕ). run x s) e)
+-- behind the last byte
+pub run_end : {c₀ : ℕ} (c : ℕ) (s : List ℕ) (i : ℕ) → run c (drop i s) ≡ c₀ → length s ≤ i → c ≡ c₀
+unfolding run
+run_end c s i going h = sym (ap (run c) (drop_of_length-le s h)) ∙ going
 
 -- ---- four runs abreast
 
--- four checksums are what each of them is
-pub four_eq : {a b c d a' b' c' d' : ℕ} → a ≡ a' → b ≡ b' → c ≡ c' → d ≡ d'
-    → ◌≡◌ {A = Four} (record { first = a; second = b; third = c; fourth = d }) (record { first = a'; second = b'; third = c'; fourth = d' })
+-- a run, as it is lent in an array of runs
+abbrev pub lent : List (Bor (List ℕ)) → ℕ → List ℕ
+lent runs i = (get_or runs i (record { ref_ptr = (0, 0); now = [] })).now
+
+pub lent_is : (runs : List (Bor (List ℕ))) (i : ℕ) → get_or (map (λ r. r.now) runs) i [] ≡ lent runs i
+lent_is runs i = get_or-map (λ (r : Bor (List ℕ)). r.now) runs i (record { ref_ptr = (0, 0); now = [] })
+
+-- the place of a byte of the first is one in each of them
+pub in_each : (runs : List (Bor (List ℕ))) {k : ℕ} → OneLength (map (λ r. r.now) runs) → k < length (lent runs 0)
+    → (k < length (lent runs 1)) × (k < length (lent runs 2)) × (k < length (lent runs 3))
+in_each runs {k} h l = (inside 1 h.0, inside 2 h.1, inside 3 h.2)
+  where
+    inside : (i : ℕ) → length (get_or (map (λ r. r.now) runs) i []) ≡ length (get_or (map (λ r. r.now) runs) 0 []) → k < length (lent runs i)
+    inside i e = omega (arith, e, ap length (lent_is runs i), ap length (lent_is runs 0))
+
+-- and behind its last byte lies none of theirs; what the register of one of them has come to
+pub run_end_at : (c c₀ : ℕ) (runs : List (Bor (List ℕ))) (i k : ℕ)
+    → length (get_or (map (λ r. r.now) runs) i []) ≡ length (get_or (map (λ r. r.now) runs) 0 [])
+    → length (lent runs 0) ≤ k
+    → run c (drop k (lent runs i)) ≡ run c₀ (lent runs i)
+    → c ≡ run c₀ (get_or (map (λ r. r.now) runs) i [])
+run_end_at c c₀ runs i k e h going =
+    let behind : length (lent runs i) ≤ k = omega (arith, e, ap length (lent_is runs i), ap length (lent_is runs 0)) in
+    run_end c (lent runs i) k going behind ∙ ap (run c₀) (sym (lent_is runs i))
+
+-- the checksum that its register comes to
+pub crc_at : {registers : List ℕ} (crcs : List ℕ) (s : List ℕ) (i : ℕ) → registers ≡ map (λ x. bit_xor x filled) crcs → i < length crcs
+    → bit_xor (run (get_or registers i 0) s) filled ≡ crc_more (get_or crcs i 0) s
+unfolding crc_more
+crc_at crcs s i e h =
+    ap (λ (x : ℕ). bit_xor (run x s) filled) (ap (λ (l : List ℕ). get_or l i 0) e ∙ list.get_or-map (λ x. bit_xor x filled) crcs i 0 0 h)
+
+-- four numbers are what each of them is
+pub four_eq : {a b c d a' b' c' d' : ℕ} → a ≡ a' → b ≡ b' → c ≡ c' → d ≡ d' → (a ∷ b ∷ c ∷ d ∷ []) ≡ (a' ∷ b' ∷ c' ∷ d' ∷ [])
 four_eq ea eb ec ed = rw (ea, eb, ec, ed)
+
+-- a register over a list is a fold over it
+pub run_fold : (c : ℕ) (s : List ℕ) → fold byte_step c s ≡ run c s
+unfolding run
+run_fold c [] = refl
+run_fold c (b ∷ s) = run_fold (byte_step c b) s

@@ -3,7 +3,7 @@ ghost use Rattle.std.specs.Prelude.{◌≡◌};
 ghost use Rattle.crc.specs.Table.{step_table};
 
 // Entry i is the register i after eight bits.
-const ENTRIES: [u32; 256] = [
+static ENTRIES: [u32; 256] = [
     0x0000_0000,
     0xF26B_8303,
     0xE13B_70F7,
@@ -262,9 +262,9 @@ const ENTRIES: [u32; 256] = [
     0xAD7D_5351,
 ];
 
-// The table. A caller that looks at it often takes it once and lends it: each use of a constant array is a copy of it.
-pub fn of_bytes() -> [u32; 256]
-    ensures { result ≡ step_table }
+// The table, where it lies.
+pub fn of_bytes() -> &'static [u32; 256]
+    ensures { result.now ≡ step_table }
 {
-    ENTRIES
+    &ENTRIES
 }

@@ -2,14 +2,14 @@
 // check can be lent them without a copy. Unused places are zero; there is no count.
 #![tactic(auto)]
 
-ghost use Rattle.std.specs.Prelude.{◌≡◌, ◌<◌, ◌≤◌, length, get_or};
-ghost use Rattle.columns.specs.Limits.{sessions, places, last_statement};
+ghost use Rattle.std.specs.Prelude.{◌≡◌, ◌<◌, ◌≤◌, get_or};
+ghost use Rattle.columns.specs.Limits.{sessions, last_statement};
 ghost use Rattle.places.specs.Open.{open_count};
 ghost use Rattle.desk.specs.Desk.{last_next, fresh_desk};
 ghost use Rattle.desk.specs.Sound.{sound_columns};
 ghost use Rattle.desk.specs.Turns.{begun, moved, closed};
 
-use columns::{Column, Limits, Lists};
+use columns::{Column, LentDesk, Limits, Lists};
 
 #[derive(Clone, Copy)]
 pub struct Desk {
@@ -18,7 +18,8 @@ pub struct Desk {
     // The open sessions' numbers, ascending, and the statement of each.
     pub numbers: Column,
     pub statements: Column,
-    // 1 where the session is spoiled, else 0 ("02, T-07"). It is no part of the sweep's mark.
+    // 1 where the session is spoiled, else 0 ("02, T-07"). It is no part of the sweep's mark. It is a number and no bool, since the
+    // words of the C interface say a desk too where they are not sound.
     pub marks: Column,
     // The numbers open when each began, ascending: 15 places a session.
     pub lists: Lists,
@@ -51,14 +52,12 @@ impl Desk {
         requires { (open_count self.numbers < sessions) × (self.next ≤ last_next) }
         ensures { result ≡ begun self }
     {
-        let open = self.numbers;
-        let next = self.next;
-        let k = places::open_count(&open);
-        columns::with_list(&mut self.lists, k * Limits::MEMBERS, open);
-        self.numbers[k] = next;
+        let k = places::open_count(&self.numbers);
+        columns::put_list(&mut self.lists, k * Limits::MEMBERS, &self.numbers);
+        self.numbers[k] = self.next;
         self.statements[k] = Desk::FIRST_STATEMENT;
         self.marks[k] = 0;
-        self.next = next + 1;
+        self.next += 1;
         self
     }
 
@@ -67,12 +66,12 @@ impl Desk {
         requires { (k < sessions) × (get_or self.statements k 0 < last_statement) }
         ensures { result ≡ moved k self }
     {
-        let statement = self.statements[k];
-        self.statements[k] = statement + 1;
+        self.statements[k] += 1;
         self
     }
 
-    // "Commit .. closes": what it sets stands on the status page.
+    // "Commit .. closes": what it sets stands on the status page. It does what withdraw does: 01 names a
+    // method for each change.
     pub fn commit(self, k: usize) -> Desk
         requires { k < sessions }
         ensures { result ≡ closed k self }
@@ -93,26 +92,18 @@ impl Desk {
         requires { k < sessions }
         ensures { result ≡ closed k self }
     {
-        columns::without_place(&mut self.numbers, k);
-        columns::without_place(&mut self.statements, k);
-        columns::without_place(&mut self.marks, k);
-        columns::without_list(&mut self.lists, k * Limits::MEMBERS);
+        columns::pull_up(&mut self.numbers, k, 1);
+        columns::pull_up(&mut self.statements, k, 1);
+        columns::pull_up(&mut self.marks, k, 1);
+        columns::pull_up(&mut self.lists, k * Limits::MEMBERS, Limits::MEMBERS);
         self
     }
 }
 
 // Whether a desk of these columns is sound: "the next number (1 to 32,576) and at most 16 open sessions in ascending order", each
 // with "its number (below next)". "Anything else is an unsound desk."
-pub fn columns_sound<'a>(
-    next: u32,
-    numbers: &'a [u32],
-    statements: &'a [u32],
-    marks: &'a [u32],
-    lists: &'a [u32],
-) -> bool
-    requires { (length numbers.now ≡ sessions) × (length statements.now ≡ sessions) × (length marks.now ≡ sessions) × (length lists.now ≡ places) }
-    ensures { result ≡ sound_columns next numbers.now statements.now marks.now lists.now }
+pub fn columns_sound(desk: LentDesk) -> bool
+    ensures { result ≡ sound_columns desk.entry.next desk.entry.numbers.now desk.entry.statements.now desk.entry.marks.now desk.entry.lists.now }
 {
-    (Desk::FIRST_NUMBER <= next) & (next <= Desk::LAST_NEXT)
-        && places::sessions_sound(next, numbers, statements, marks, lists)
+    (Desk::FIRST_NUMBER..=Desk::LAST_NEXT).contains(&desk.next) && places::sessions_sound(desk)
 }

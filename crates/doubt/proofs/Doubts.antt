@@ -6,11 +6,13 @@ use mathlib.Core.List.{List, [], ◌∷◌}
 use Prim.Native.Nat.{ℕ, zero, suc, ◌+◌}
 use native.Mathlib.Omega.{arith}
 use lib.Dec.{eqb, ltb}
+use denote.Enum.Bare.{sameb}
 use borrow.Author.Tests.{eq-eqb, ne_eqb}
 use Rattle.ground.proofs.Ranges.{and_true_left, and_true_right, or_true_right, or_false_left}
 use Rattle.kind.specs.Kind.{entries}
 use Rattle.status.specs.declared.Status.{Status}
 use Rattle.status.specs.declared.Status.TheVariants.{InWork, Committed, Withdrawn, Reserved}
+use Rattle.status.specs.contracts.Status.{the_type}
 use Rattle.desk.specs.View.{View}
 use Rattle.sight.specs.declared.Stamp.{Stamp}
 use Rattle.sight.specs.Sight.{view_of, standing, is_committed, committed, listed, sees, earlier, known, there}
@@ -31,6 +33,13 @@ use Rattle.chain.proofs.Walks.{found}
 use Rattle.doubt.specs.Doubt.{is_reserved, reserved, NoneReserved, doubtful, in_doubt, doubt_in, versions_looked_at, some_in, doubts, doubts_behind}
 
 -- ---- a number
+
+-- a status of 11, as the derived equality tells it
+pub same_reserved : (v : Status) → sameb the_type v Reserved ≡ is_reserved v
+same_reserved InWork = refl
+same_reserved Committed = refl
+same_reserved Withdrawn = refl
+same_reserved Reserved = refl
 
 module _ (session : ℕ) (s : List ℕ) (x : ℕ) where
   pub doubtful_own : x ≡ session → doubtful session s x ≡ false

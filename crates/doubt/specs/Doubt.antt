@@ -1,19 +1,22 @@
 -- Doubt along the front of a chain that was looked at ("02, T-05"): whether a version names a number whose status says nothing. It is said
 -- over the versions of the chain, beside the walk, which does not ask it. Assumes nothing.
-use Rattle.std.specs.Prelude.{ℕ, ◌≡◌, Bool, true, false, not, ◌&&◌, ◌||◌, cond, List, [], ◌∷◌, eqb}
+use Rattle.std.specs.Prelude.{ℕ, ◌≡◌, Bool, true, false, not, ◌&&◌, ◌||◌, cond, List, [], ◌∷◌, Result, Ok, Err, eqb}
 use Rattle.desk.specs.View.{View}
 use Rattle.status.specs.declared.Status.{Status}
 use Rattle.status.specs.declared.Status.TheVariants.{InWork, Committed, Withdrawn, Reserved}
 use Rattle.sight.specs.declared.Stamp.{Stamp}
 use Rattle.sight.specs.Sight.{standing}
 use Rattle.records.specs.declared.slot.Slot.{Slot}
+use Rattle.answer.specs.declared.Refusal.{Refusal}
+use Rattle.answer.specs.declared.Refusal.TheVariants.{Broken as Torn, NotThere, InDoubt}
 use Rattle.kind.specs.Kind.{entries}
 use Rattle.chain.specs.Chain.{Version, chain_from, chain_of}
 use Rattle.chain.specs.declared.Walk.{Walk}
 use Rattle.chain.specs.declared.Walk.TheVariants.{Found as At, Absent as NoVersion, Broken as Break}
-use Rattle.chain.specs.Walk.{stamp_of, there_in, walk_rule}
-use Rattle.doubt.specs.declared.Look.{Look}
-use Rattle.doubt.specs.declared.Look.TheVariants.{Found, Absent, Broken, Doubted}
+use Rattle.chain.specs.declared.Found.{Found}
+use Rattle.chain.specs.Walk.{stamp_of, there_in, found_at, walk_rule}
+use Rattle.doubt.specs.declared.Missing.{Missing}
+use Rattle.doubt.specs.declared.Missing.TheVariants.{Absent, Broken, Doubted}
 
 abbrev pub is_reserved : Status → Bool
 is_reserved InWork = false
@@ -61,11 +64,17 @@ doubts_behind u s v r ptr = some_in (doubt_in v.number s) (versions_looked_at (t
 
 -- what comes of a walk, where t tells whether a version looked at was in doubt: "a break met before a version is found answers 6, and
 -- otherwise any such version looked at, the answer included, gives 17"
-abbrev pub look_by : Bool → Walk → Look
-look_by t (At place n) = cond t Doubted (Found place n)
-look_by t NoVersion = cond t Doubted Absent
-look_by t Break = Broken
+abbrev pub look_by : Bool → Walk → Result Found Missing
+look_by t (At place n) = cond t (Err Doubted) (Ok (found_at place n))
+look_by t NoVersion = cond t (Err Doubted) (Err Absent)
+look_by t Break = Err Broken
 
 -- of row r, as view v has it
-unfoldable pub look_rule : List ℕ → List ℕ → List ℕ → View → ℕ → Look
+unfoldable pub look_rule : List ℕ → List ℕ → List ℕ → View → ℕ → Result Found Missing
 look_rule d u s v r = look_by (doubts d u s v r) (walk_rule d u s v r)
+
+-- what a call refuses where the walk answers no version: 7, 6 and 17
+abbrev pub refusal_of : Missing → Refusal
+refusal_of Absent = NotThere
+refusal_of Broken = Torn
+refusal_of Doubted = InDoubt

@@ -3,118 +3,110 @@
 // weren't. It counts its steps and keeps no list of the entries passed; that this is the same is shown in chain/proofs.
 #![tactic(auto)]
 
-ghost use Rattle.std.specs.Prelude.{◌≡◌, ◌||◌, ◌<◌, length};
-ghost use Rattle.kind.specs.Kind.{page_size, rows};
-ghost use Rattle.sight.specs.Sight.{view_of};
-ghost use Rattle.chain.specs.declared.Walk.TheVariants.{Found as At};
-ghost use Rattle.chain.specs.Walk.{end_of, follow_rule};
-ghost use Rattle.doubt.specs.Doubt.{reserved, doubtful, doubt_in, doubts_behind, look_by, look_rule};
+ghost use Rattle.std.specs.Prelude.{◌≡◌, ◌||◌, cond, ◌<◌};
+ghost use Rattle.kind.specs.Kind.{rows};
+ghost use Rattle.sight.specs.Sight.{said_view};
+ghost use Rattle.chain.specs.Walk.{follow_rule};
+ghost use Rattle.doubt.specs.declared.Missing.TheVariants.{Doubted};
+ghost use Rattle.doubt.specs.Doubt.{reserved, doubtful, doubt_in, doubts_behind, look_by, look_rule, refusal_of};
 
-use chain::{Link, Place};
+use answer::Refusal;
+use chain::{Found, Link, Place};
 use records::slot::Slot;
+use sight::{StatusPage, View};
 use status::Status;
 
-// What the walk finds: a version with the number of versions looked at, that there is none, a break before one, or that a version
-// looked at is in doubt.
-#[derive(Drop)]
-pub enum Look {
-    Found(Place, usize),
+// Why the walk answers no version: there is none, a break before one, or a version looked at is in doubt.
+#[derive(Clone, Copy)]
+pub enum Missing {
     Absent,
     Broken,
     Doubted,
 }
 
-// Whether x "has status 11". "Number 0 and those above 32,575" have none.
-fn is_reserved(status: &[u8], x: u64) -> bool
-    requires { length status.now ≡ page_size }
-    ensures { result ≡ reserved x status.now }
-{
-    match sight::standing_of(status, x) {
-        Status::InWork => false,
-        Status::Committed => false,
-        Status::Withdrawn => false,
-        Status::Reserved => true,
+// What a call refuses then: "no version there", "broken chain met before a version is found", a version in doubt.
+impl From<Missing> for Refusal {
+    ghost from_gives = { λ missing refusal. refusal ≡ refusal_of missing };
+
+    fn from(missing: Missing) -> Refusal {
+        match missing {
+            Missing::Absent => Refusal::NotThere,
+            Missing::Broken => Refusal::Broken,
+            Missing::Doubted => Refusal::InDoubt,
+        }
     }
+}
+
+// Whether x "has status 11". "Number 0 and those above 32,575" have none.
+#[tactic(auto, using(crate::proofs::Doubts::same_reserved), unfolding(crate::specs::Doubt::reserved))]
+fn is_reserved(status: StatusPage, x: u64) -> bool
+    ensures { result ≡ reserved x status.entry.bytes.now }
+{
+    status.standing_of(x) == Status::Reserved
 }
 
 // Whether x, "other than the acting session, has status 11".
 #[tactic(auto, using(crate::proofs::Doubts::doubtful_own, crate::proofs::Doubts::doubtful_other))]
-fn is_doubtful(status: &[u8], session: u64, x: u64) -> bool
-    requires { length status.now ≡ page_size }
-    ensures { result ≡ doubtful session status.now x }
+fn is_doubtful(status: StatusPage, session: u64, x: u64) -> bool
+    ensures { result ≡ doubtful session status.entry.bytes.now x }
 {
     x != session && is_reserved(status, x)
 }
 
 // Whether "the creator or expirer" of a version is such a number. Hardly ever is the one, so the other is asked without waiting for it.
-fn in_doubt(status: &[u8], session: u64, m: Slot) -> bool
-    requires { length status.now ≡ page_size }
-    ensures { result ≡ doubt_in session status.now m }
+#[tactic(auto, unfolding(crate::specs::Doubt::in_doubt))]
+fn in_doubt(status: StatusPage, session: u64, m: Slot) -> bool
+    ensures { result ≡ doubt_in session status.entry.bytes.now m }
 {
     is_doubtful(status, session, m.create) | is_doubtful(status, session, m.expire)
 }
 
-// The version found, or doubt: "any such version looked at, the answer included, gives 17".
-fn reached(met: bool, place: Place, looked: usize) -> Look
-    ensures { result ≡ look_by met (At place looked) }
+// What a walk that met no break answers: "any such version looked at, the answer included, gives 17".
+fn unless_doubted(met: bool, answer: Result<Found, Missing>) -> Result<Found, Missing>
+    ensures { result ≡ cond met (Err Doubted) answer }
 {
     if met {
-        return Look::Doubted;
+        return Err(Missing::Doubted);
     }
-    Look::Found(place, looked)
-}
-
-// What a walk answers where its link leads to no entry that it may still pass: "a break met before a version is found answers 6".
-fn ended(met: bool, l: Link) -> Look
-    ensures { result ≡ look_by met (end_of l) }
-{
-    match l {
-        Link::Break => Look::Broken,
-        Link::To(_, _) => Look::Broken,
-        Link::End => {
-            if met {
-                return Look::Doubted;
-            }
-            Look::Absent
-        }
-    }
+    answer
 }
 
 // The walk behind the slot, which was looked at: from the pointer on, along the undo pointers, to the first copy that is there. The
 // chain is broken where it "leads to an entry already passed": then it goes round, until as many copies as there are entries were
-// looked at. `met` tells whether the slot was in doubt.
-fn search_copies<'a>(
-    undo: &'a [u8],
-    status: &'a [u8],
-    number: u64,
-    statement: u32,
-    list: &'a [u32],
+// looked at. `met` tells whether the slot was in doubt. The loop yields what it found by break, the form that 01 names for it, and counts
+// its steps by hand.
+#[tactic(auto, using(crate::proofs::Looks::stands_first, crate::proofs::Looks::stands_broken, crate::proofs::Looks::stands_ended, crate::proofs::Looks::stands_out, crate::proofs::Looks::stands_found, crate::proofs::Looks::stands_on))]
+fn search_copies(
+    undo: &[u8],
+    status: StatusPage,
+    view: View,
     row: usize,
     first: u64,
     met: bool,
-) -> Look
-    requires { length status.now ≡ page_size }
-    ensures { result ≡ look_by (met || doubts_behind undo.now status.now (view_of number statement list.now) row first) (follow_rule undo.now status.now (view_of number statement list.now) row first) }
+) -> Result<Found, Missing>
+    ensures { result ≡ look_by (met || doubts_behind undo.now status.entry.bytes.now (said_view view.entry) row first) (follow_rule undo.now status.entry.bytes.now (said_view view.entry) row first) }
 {
     let most = kind::entries(undo);
     let mut ptr = first;
     let mut looked = 1;
     let mut noted = met;
     let found = loop {
-        let l = chain::follow(undo, row, ptr);
-        let Link::To(e, m) = l else {
-            break ended(noted, l);
-        };
-        if looked > most {
-            break Look::Broken;
+        match chain::follow(undo, row, ptr) {
+            Link::Break => break Err(Missing::Broken),
+            Link::End => break unless_doubted(noted, Err(Missing::Absent)),
+            Link::To(e, m) => {
+                if looked > most {
+                    break Err(Missing::Broken);
+                }
+                noted = noted | in_doubt(status, view.number, m.copy);
+                looked += 1;
+                if view.is_there(status, chain::stamp_of(m.copy)) {
+                    let place = Place::Undo(e);
+                    break unless_doubted(noted, Ok(Found { place, looked }));
+                }
+                ptr = m.copy.undo_ptr;
+            }
         }
-        let copy = m.copy;
-        noted = noted | in_doubt(status, number, copy);
-        if sight::is_there(number, statement, list, status, chain::stamp_of(copy)) {
-            break reached(noted, Place::Undo(e), looked + 1);
-        }
-        ptr = copy.undo_ptr;
-        looked += 1;
     };
     found
 }
@@ -122,25 +114,26 @@ fn search_copies<'a>(
 // "S reads the first such version, starting at the slot and following undo pointers", and how many versions were looked at, "the
 // answer included", where none of them was in doubt. An empty slot has no version. Of a slot that is there the expirer alone may be in
 // doubt: its creator is the session itself, or committed.
-pub fn search<'a>(
-    data: &'a [u8],
-    undo: &'a [u8],
-    status: &'a [u8],
-    number: u64,
-    statement: u32,
-    list: &'a [u32],
+#[tactic(auto, using(crate::proofs::Looks::look_empty, crate::proofs::Looks::look_at, crate::proofs::Looks::look_on))]
+pub fn search(
+    data: &[u8],
+    undo: &[u8],
+    status: StatusPage,
+    view: View,
     row: usize,
-) -> Look
-    requires { (row < rows «data».now) × (length status.now ≡ page_size) }
-    ensures { result ≡ look_rule «data».now undo.now status.now (view_of number statement list.now) row }
+) -> Result<Found, Missing>
+    requires { row < rows «data».now }
+    ensures { result ≡ look_rule «data».now undo.now status.entry.bytes.now (said_view view.entry) row }
 {
     let m = records::slot::read_slot(data, row);
     if m.create == 0 {
-        return Look::Absent;
+        return Err(Missing::Absent);
     }
-    if sight::is_there(number, statement, list, status, chain::stamp_of(m)) {
-        return reached(is_doubtful(status, number, m.expire), Place::Data(row), 1);
+    if view.is_there(status, chain::stamp_of(m)) {
+        let place = Place::Data(row);
+        let doubted = is_doubtful(status, view.number, m.expire);
+        return unless_doubted(doubted, Ok(Found { place, looked: 1 }));
     }
-    let met = in_doubt(status, number, m);
-    search_copies(undo, status, number, statement, list, row, m.undo_ptr, met)
+    let met = in_doubt(status, view.number, m);
+    search_copies(undo, status, view, row, m.undo_ptr, met)
 }

@@ -1,26 +1,18 @@
 -- Laws of one reading: what it gave, by what it answered; and what that leaves of the text. Assumes nothing.
 use Prim.Native.Nat.{ℕ, zero, suc, ◌+◌, ◌-◌, ◌≤◌}
 use native.Mathlib.Omega.{arith}
-use mathlib.Core.Path.{◌≡◌, refl, sym, subst⁻¹, ◌∙◌}
+use mathlib.Core.Path.{◌≡◌, sym, subst⁻¹, ◌∙◌}
 use mathlib.Core.List.{List}
 use lib.ListN.{length, take, drop, length-drop}
 use lib.Seq.{length-take-le}
 use lib.Dec.{eqb}
 use borrow.Rule.Slice.PartMut.{put_mid, take_put}
 use borrow.Author.Tests.{eq-eqb, ne_eqb}
-use Rattle.std.specs.Prelude.{min, Option, Some, None, true, false}
+use Rattle.std.specs.Prelude.{min, Option, Some, None, IfSome}
 use Rattle.feeding.specs.declared.Filled.{Filled}
-use Rattle.feeding.specs.Feeding.{filled_by, Fills}
+use Rattle.feeding.specs.Feeding.{filled_by, Behind, Fills}
 
 -- ---- what it gave
-
-pub gave_none : (kept room : ℕ) → ◌≡◌ {A = Filled} (record { good = false; end = kept; last = true }) (filled_by kept None room)
-unfolding filled_by
-gave_none kept room = refl
-
-pub gave_some : (kept got room n : ℕ) → n ≡ min got room → ◌≡◌ {A = Filled} (record { good = true; end = kept + n; last = eqb n 0 }) (filled_by kept (Some got) room)
-unfolding filled_by
-gave_some kept got room n e = rw e
 
 -- no more than there is room for is counted
 counts : (got room : ℕ) → min got room ≤ room
@@ -37,7 +29,7 @@ pub longer : (kept n : ℕ) → eqb n 0 ≡ eqb (kept + n) kept
 longer kept zero = sym (eq-eqb (kept + 0) kept (omega arith))
 longer kept (suc n) = ne_eqb (suc n) 0 (λ e. omega (arith, e)) ∙ sym (ne_eqb (kept + suc n) kept (λ e. omega (arith, e)))
 
-fills_by : (kept : ℕ) (got : Option ℕ) (before behind : List ℕ) (room : ℕ) (r : Filled)
+fills_by : (kept : ℕ) (got : Option ℕ) (before behind : List ℕ) (room : ℕ) (r : Option Filled)
     → r ≡ filled_by kept got room
     → kept + room ≡ length before
     → take kept behind ≡ take kept before
@@ -45,19 +37,19 @@ fills_by : (kept : ℕ) (got : Option ℕ) (before behind : List ℕ) (room : �
 unfolding filled_by
 fills_by kept (Some n) before behind room r e long same = record {
   keeps = same;
-  begins = subst⁻¹ (λ (f : Filled). kept ≤ f.end) e (omega arith);
-  within = subst⁻¹ (λ (f : Filled). f.end ≤ length before) e (omega (arith, long));
-  ends = subst⁻¹ (λ (f : Filled). f.last ≡ eqb f.end kept) e (longer kept (min n room));
+  given = subst⁻¹ (λ (o : Option Filled). IfSome o (Behind kept before)) e (record {
+    begins = omega arith;
+    within = omega (arith, long);
+    ends = longer kept (min n room);
+  });
 }
 fills_by kept None before behind room r e long same = record {
   keeps = same;
-  begins = subst⁻¹ (λ (f : Filled). kept ≤ f.end) e (omega arith);
-  within = subst⁻¹ (λ (f : Filled). f.end ≤ length before) e (omega (arith, long));
-  ends = subst⁻¹ (λ (f : Filled). f.last ≡ eqb f.end kept) e (sym (eq-eqb kept kept refl));
+  given = subst⁻¹ (λ (o : Option Filled). IfSome o (Behind kept before)) e tt;
 }
 
 -- what was read stands behind what was kept, in all the room there is
-pub fills : (kept : ℕ) (got : Option ℕ) (before new : List ℕ) (r : Filled)
+pub fills : (kept : ℕ) (got : Option ℕ) (before new : List ℕ) (r : Option Filled)
     → kept ≤ length before
     → length (put_mid kept (length before - kept) before new) ≡ length before
     → r ≡ filled_by kept got (length (take (length (put_mid kept (length before - kept) before new) - kept) (drop kept (put_mid kept (length before - kept) before new))))

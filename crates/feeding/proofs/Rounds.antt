@@ -7,17 +7,18 @@ use mathlib.Core.List.{List, [], ◌++◌, append-nil}
 use lib.ListN.{length, take, drop, length-drop, take-append-drop}
 use lib.Seq.{length-take-le, take-take, take-append_seam, take-append-add, drop-append_seam}
 use lib.Dec.{eqb}
+use Rattle.std.specs.Prelude.{Option}
 use Rattle.kind.specs.Areas.{Areas}
 use Rattle.script.specs.declared.Footing.{Footing}
 use Rattle.script.specs.Script.{Carried, carried}
 use Rattle.feeding.specs.declared.Filled.{Filled}
 use Rattle.feeding.specs.declared.Fed.{Fed}
-use Rattle.feeding.specs.Feeding.{Fills, Stand, stand, run_of, after, Serves, is_none, Rounds}
+use Rattle.feeding.specs.Feeding.{Behind, Fills, Stand, stand, run_of, after, Serves, is_none, Rounds}
 use Rattle.feeding.proofs.Readings.{longer}
 use Rattle.feeding.proofs.Served.{after_left, after_short}
 
 -- nothing could be read: nothing is done
-pub round_failed : (s : Footing) (a : Areas) (kept : ℕ) (before behind : List ℕ) (room : ℕ) (f : Filled) → kept ≤ length before → Fills kept before behind f
+pub round_failed : (s : Footing) (a : Areas) (kept : ℕ) (before behind : List ℕ) (room : ℕ) (f : Option Filled) → kept ≤ length before → Fills kept before behind f
     → Rounds (carried s a) kept before room (record { footing = s; kept = kept; more = false }) a behind
 unfolding after
 round_failed s a kept before behind room f h fills = record {
@@ -43,7 +44,7 @@ front_part i n l h =
 
 -- some text was read, and answered
 module _ (k : Carried) (kept : ℕ) (before text : List ℕ) (room : ℕ) (f : Filled) (r : Fed) (left : Areas)
-    (long : length text ≡ length before) (fills : Fills kept before text f) (answered : Serves f.last room (stand k (take f.end text)) r left) where
+    (long : length text ≡ length before) (same₀ : take kept text ≡ take kept before) (fills : Behind kept before f) (answered : Serves f.last room (stand k (take f.end text)) r left) where
   abbrev read : List ℕ
   read = drop kept (take f.end text)
 
@@ -53,7 +54,7 @@ module _ (k : Carried) (kept : ℕ) (before text : List ℕ) (room : ℕ) (f : F
   text_is : take f.end text ≡ take kept before ++ read
   text_is =
       sym (take-append-drop kept (take f.end text))
-      ∙ ap (λ (l : List ℕ). l ++ drop kept (take f.end text)) (take-take kept f.end text fills.begins ∙ fills.keeps)
+      ∙ ap (λ (l : List ℕ). l ++ drop kept (take f.end text)) (take-take kept f.end text fills.begins ∙ same₀)
 
   last_is : f.last ≡ is_none read
   last_is =

@@ -1,6 +1,6 @@
 -- A script fed piece by piece ("01, The script and one whole run"): what one reading gives, and what answering it leaves. What stands in a
 -- file no definition can say; what is done with what was read, these do. Assumes nothing.
-use Rattle.std.specs.Prelude.{ℕ, zero, suc, ◌+◌, ◌≤◌, ◌≡◌, Bool, true, false, not, ◌&&◌, List, [], ◌∷◌, ◌++◌, length, take, drop, min, Option, Some, None, eqb}
+use Rattle.std.specs.Prelude.{ℕ, zero, suc, ◌+◌, ◌≤◌, ◌≡◌, Bool, true, false, not, ◌&&◌, List, [], ◌∷◌, ◌++◌, length, take, drop, min, Option, Some, None, IfSome, eqb}
 use Rattle.kind.specs.Areas.{Areas}
 use Rattle.reply.specs.Reply.{longest as longest_answer}
 use Rattle.script.specs.Script.{Carried, carried, output, Portion, run_rule}
@@ -11,17 +11,20 @@ use Rattle.feeding.specs.declared.Fed.{Fed}
 
 -- what a reading that answered `got` gave, into so much room behind the bytes kept: where it could be had, the text is longer by what was
 -- counted, and no more comes exactly where nothing came
-unfoldable pub filled_by : ℕ → Option ℕ → ℕ → Filled
-filled_by kept (Some n) room = record { good = true; end = kept + min n room; last = eqb (min n room) 0 }
-filled_by kept None room = record { good = false; end = kept; last = true }
+unfoldable pub filled_by : ℕ → Option ℕ → ℕ → Option Filled
+filled_by kept (Some n) room = Some (record { end = kept + min n room; last = eqb (min n room) 0 })
+filled_by kept None room = None
 
--- what a reading leaves, whatever it answered: what was kept stands where it stood, the text ends inside its buffer, and no more comes exactly
--- where nothing came
-pub record Fills (kept : ℕ) (before behind : List ℕ) (r : Filled) : Type 0 where
+-- where a text ends behind what was kept: inside its buffer, and no more comes exactly where nothing came
+pub record Behind (kept : ℕ) (before : List ℕ) (f : Filled) : Type 0 where
+  pub begins : kept ≤ f.end
+  pub within : f.end ≤ length before
+  pub ends : f.last ≡ eqb f.end kept
+
+-- what a reading leaves, whatever it answered: what was kept stands where it stood; and where it could be had, where the text ends
+pub record Fills (kept : ℕ) (before behind : List ℕ) (r : Option Filled) : Type 0 where
   pub keeps : take kept behind ≡ take kept before
-  pub begins : kept ≤ r.end
-  pub within : r.end ≤ length before
-  pub ends : r.last ≡ eqb r.end kept
+  pub given : IfSome r (Behind kept before)
 
 -- ---- what is answered
 

@@ -1,5 +1,6 @@
 // Feeds a script from a reader to the store, and its answers to a writer, as they come ("01, The script and one whole run"). It holds no
 // rule: which call a line is, what it does and what it answers is `script`'s.
+// The areas are lent apart, as C lends them: a call writes some of them and only reads others.
 #![tactic(auto)]
 
 ghost use Rattle.std.specs.Prelude.{◌≡◌, true, ◌++◌, ◌+◌, ◌-◌, ◌^◌, ◌≤◌, ◌<◌, length, take, drop, MatchResult, Some, None};
@@ -14,7 +15,7 @@ use std::io;
 use std::io::{Eprint, Read, Write};
 
 // What is carried from one reading to the next: the script's footing, how much text that was not taken stands at the front of the buffer, and
-// whether to go on.
+// whether to go on, which says nothing of the other two.
 #[derive(Drop)]
 struct Fed {
     footing: Footing,
@@ -22,10 +23,9 @@ struct Fed {
     more: bool,
 }
 
-// What a reading gave: whether it could be had, where the text ends now, and whether no more comes.
+// What a reading gave: where the text ends now, and whether no more comes.
 #[derive(Drop)]
 struct Filled {
-    good: bool,
     end: usize,
     last: bool,
 }
@@ -35,11 +35,7 @@ fn keep_rest(text: &mut [u8], from: usize, to: usize)
     requires { (from ≤ to) × (to ≤ length text.old) }
     ensures { text.new ≡ take (to - from) (drop from text.old) ++ drop (to - from) text.old }
 {
-    let mut i = from;
-    while i < to {
-        text[i - from] = text[i];
-        i += 1;
-    }
+    text.copy_within(from..to, 0);
 }
 
 // What a reading or a writing came to; one that failed is named on standard error, with the system's reason.
@@ -83,7 +79,7 @@ fn serve<W: Write>(
 {
     let mut s = footing;
     let mut at = 0;
-    while at <= text.len() {
+    loop {
         let r = script::run(data, undo, status, s, &text[at..], last, out);
         s = r.footing;
         let made = r.made;
@@ -98,37 +94,28 @@ fn serve<W: Write>(
             };
         }
     }
-    Fed {
-        footing: s,
-        kept: 0,
-        more: !last,
-    }
 }
 
-// What a reading gave that answered `got`, into the room behind what was kept. One that failed answers nothing.
-fn gave(kept: usize, got: Option<usize>, room: &[u8]) -> Filled
+// What a reading gave that answered `got`, into the room behind what was kept. One that failed gave nothing.
+#[tactic(auto, unfolding(crate::specs::Feeding::filled_by))]
+fn gave(kept: usize, got: Option<usize>, room: &[u8]) -> Option<Filled>
     requires { kept + length room.now < 2 ^ 64 }
     ensures { result ≡ filled_by kept got (length room.now) }
 {
-    match got {
-        Some(got) => {
-            let n = got.min(room.len());
-            Filled {
-                good: true,
-                end: kept + n,
-                last: n == 0,
-            }
-        }
-        None => Filled {
-            good: false,
-            end: kept,
-            last: true,
-        },
-    }
+    let n = got?.min(room.len());
+    Some(Filled {
+        end: kept + n,
+        last: n == 0,
+    })
 }
 
 // Reads once, behind what was kept, and answers how much text there is then, and whether that was all.
-fn fill<R: Read>(errors: &impl Eprint, text: &mut [u8], kept: usize, input: &mut R) -> Filled
+fn fill<R: Read>(
+    errors: &impl Eprint,
+    text: &mut [u8],
+    kept: usize,
+    input: &mut R,
+) -> Option<Filled>
     requires { kept < length text.old }
     ensures { Fills kept text.old text.new result }
 {
@@ -154,14 +141,13 @@ fn round<R: Read, W: Write>(
     ensures rounds { Rounds (carried footing (areas «data».old undo.old status.old)) kept text.old (length out.old) result (areas «data».new undo.new status.new) text.new }
     ensures kept_le_longest_line { result.more ≡ true → result.kept ≤ longest_line }
 {
-    let filled = fill(errors, text, kept, input);
-    if !filled.good {
+    let Some(filled) = fill(errors, text, kept, input) else {
         return Fed {
             footing,
             kept,
             more: false,
         };
-    }
+    };
     let end = filled.end;
     let f = serve(
         errors,

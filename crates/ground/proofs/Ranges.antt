@@ -8,8 +8,10 @@ use native.Mathlib.Nat.{not-suc-le-zero, eq-or-lt_of_le, le_of_suc-le-suc, add-z
 use native.Mathlib.Numerals.{add-one}
 use native.Mathlib.Omega.{arith}
 use lib.Dec.{ltb}
-use borrow.Author.Tests.{ltb-true, ltb-false}
-use Rattle.ground.specs.Range.{first_from, count_below, all_below}
+use borrow.Author.Tests.{ltb-true, ltb-false, lt-leb, le-leb}
+use Rattle.std.proofs.lemmas.Option.{none-some, same_Some}
+use Rattle.std.specs.Prelude.{Some, None}
+use Rattle.ground.specs.Range.{first_from, count_below, all_below, found_below}
 
 pub lt_or_le : (a b : ℕ) → (a < b) ⊎ (b ≤ a)
 lt_or_le a b = by (ltb a b) refl
@@ -201,3 +203,36 @@ module _ (f g : ℕ → Bool) where
   unfolding all_below
   all_agree zero h = refl
   all_agree (suc n) h = ap₂ ◌&&◌ (all_agree n (λ i l. h i (omega arith))) (h n (omega arith))
+
+-- ---- what a search answers that may find nothing: nothing where n ≤ i, and i where i < n
+
+pub found_at_end : (n i : ℕ) → n ≤ i → found_below n i ≡ None
+unfolding found_below
+found_at_end n i h = rw (le-leb n i h)
+
+pub found_inside : (n i : ℕ) → i < n → found_below n i ≡ Some i
+unfolding found_below
+found_inside n i h = rw (lt-leb n i h)
+
+-- and the other way round
+pub none_found : (n i : ℕ) → None ≡ found_below n i → n ≤ i
+none_found n i e = ⊎_elim (λ (l : i < n). absurd (none-some i (e ∙ found_inside n i l))) (λ (h : n ≤ i). h) (lt_or_le i n)
+
+pub one_found : {j : ℕ} (n i : ℕ) → Some j ≡ found_below n i → (j ≡ i) × (j < n)
+one_found {j} n i e =
+    ⊎_elim
+    (λ (l : i < n). let same : j ≡ i = same_Some j i (e ∙ found_inside n i l) in (same, omega arith))
+    (λ (h : n ≤ i). absurd (none-some j (sym (e ∙ found_at_end n i h))))
+    (lt_or_le i n)
+
+-- of an i that is never above n
+pub none_found_at_most : (n i : ℕ) → i ≤ n → None ≡ found_below n i → i ≡ n
+none_found_at_most n i h e = omega (arith, none_found n i e)
+
+-- as a search in a loop answers: at an index that passes, and behind the last
+module _ (f : ℕ → Bool) (i n : ℕ) (going : first_from f i (n - i) ≡ first_from f 0 n) where
+  pub found_here : i < n → f i ≡ true → Some i ≡ found_below n (first_from f 0 n)
+  found_here h e = sym (ap (found_below n) (sym going ∙ first_here f i n h e) ∙ found_inside n i h)
+
+  pub found_nowhere : n ≤ i → None ≡ found_below n (first_from f 0 n)
+  found_nowhere h = sym (found_at_end n (first_from f 0 n) (omega (arith, going, first_end f i n h)))

@@ -1,3 +1,4 @@
+pub mod Ranges
 pub mod Pages
 pub mod Calls
 pub mod Promises

@@ -2,7 +2,7 @@
 use mathlib.Core.Path.{◌≡◌, refl, sym, ap, ◌∙◌}
 use mathlib.Core.List.{List, ◌++◌}
 use mathlib.Core.Bool.{Bool, true, false, ◌&&◌, and-true, and-false}
-use Prim.Native.Nat.{ℕ, ◌+◌, ◌*◌, ◌-◌, ◌≤◌, ◌<◌}
+use Prim.Native.Nat.{ℕ, ◌+◌, ◌*◌, ◌≤◌, ◌<◌}
 use native.Mathlib.Numerals.{add-one}
 use native.Mathlib.Omega.{arith}
 use lib.ListN.{length, take, drop, length-append}
@@ -14,9 +14,8 @@ use Rattle.kind.specs.declared.Kind.{Kind}
 use Rattle.kind.specs.Kind.{data_kind, undo_kind, status_kind}
 use Rattle.kind.specs.Areas.{areas}
 use Rattle.status.specs.Status.{status_at}
-use Rattle.whole.specs.Whole.{page_right, sealed_page, fresh_page}
-use Rattle.whole.specs.Abreast.{sealed_four, right_at}
-use Rattle.page.proofs.Headers.{page_at_lent}
+use Rattle.whole.specs.Whole.{sealed_page, fresh_page}
+use Rattle.whole.specs.Abreast.{sealed_four}
 use Rattle.whole.proofs.Rights.{length_fresh_page}
 use Rattle.keep.specs.Whole.{fresh_area, sealed_area, area_right, highest, ended, all_ended, store_right}
 
@@ -47,9 +46,9 @@ pub sealed_area_more : {y : List ℕ} (p q : ℕ) (s₀ s : List ℕ) → q ≡ 
 unfolding sealed_area
 sealed_area_more p q s₀ s n e w = w ∙ ap (sealed_page p) e ∙ ap (λ (m : ℕ). sealed_area m s₀) (sym (n ∙ add-one p))
 
-pub sealed_area_four : {y : List ℕ} (p : ℕ) (s₀ s : List ℕ) → s ≡ sealed_area p s₀ → y ≡ sealed_four p s → y ≡ sealed_area (p + 4) s₀
-sealed_area_four p s₀ s e w =
-    sealed_area_more (p + 3) (p + 4) s₀ (sealed_page (p + 2) (sealed_page (p + 1) (sealed_page p s))) (omega arith) third w
+pub sealed_area_four : {y : List ℕ} (p q : ℕ) (s₀ s : List ℕ) → q ≡ p + 4 → s ≡ sealed_area p s₀ → y ≡ sealed_four p s → y ≡ sealed_area q s₀
+sealed_area_four p q s₀ s n e w =
+    sealed_area_more (p + 3) q s₀ (sealed_page (p + 2) (sealed_page (p + 1) (sealed_page p s))) (omega arith) third w
   where
     first : sealed_page p s ≡ sealed_area (p + 1) s₀
     first = sealed_area_more p (p + 1) s₀ s refl e refl
@@ -66,12 +65,6 @@ sealed_area_four p s₀ s e w =
 abbrev pub ended_at : List ℕ → ℕ → Bool
 ended_at s i = ended (status_at (i + 1) s)
 
--- what the test of page p answered, as it was lent
-pub right_at_lent : {r : Bool} (k : Kind) (s : List ℕ) (p : ℕ)
-    → r ≡ page_right k (p + 1) (take (p * 8192 + 8192 - p * 8192) (drop (p * 8192) s))
-    → right_at k s p ≡ r
-right_at_lent k s p h = sym (h ∙ ap (page_right k (p + 1)) (page_at_lent p s))
-
 -- ---- the highest number
 
 module _ (d u s : List ℕ) where
@@ -79,21 +72,10 @@ module _ (d u s : List ℕ) where
   unfolding store_right
   store_right_high h = rw (lt-leb (highest s) 32575 h, and-false)
 
-  store_right_low : highest s ≤ 32575
+  pub store_right_low : highest s ≤ 32575
       → store_right (areas d u s) ≡ (area_right data_kind d && area_right undo_kind u && area_right status_kind s && all_ended (highest s) s)
   unfolding store_right
   store_right_low h = rw (le-leb (highest s) 32575 h, and-true)
-
-  -- what the four checks answered
-  pub store_right_checks : {a b c e : Bool} {top : ℕ}
-      → top ≡ highest s
-      → top ≤ 32575
-      → a ≡ area_right data_kind d
-      → b ≡ area_right undo_kind u
-      → c ≡ area_right status_kind s
-      → e ≡ all_ended top s
-      → (a && b && c && e) ≡ store_right (areas d u s)
-  store_right_checks t h ea eb ec ee = rw (store_right_low (omega arith)) (cc)
 
   pub highest_store_right : store_right (areas d u s) ≡ true → highest s ≤ 32575
   unfolding store_right

@@ -1,6 +1,6 @@
 -- What format, seal and open promise, over their rules alone: each leaves one answer, a refused call changes nothing, and open takes
 -- up what format wrote and what seal sealed. Assumes nothing.
-use mathlib.Core.Path.{◌≡◌, refl, sym, ap, ap₂, ◌∙◌}
+use mathlib.Core.Path.{◌≡◌, refl, sym, ap, ◌∙◌}
 use mathlib.Core.Logic.{⊎_elim}
 use mathlib.Core.Bool.{true, false, not}
 use mathlib.Core.List.{List, [], ◌∷◌, ◌++◌}
@@ -12,15 +12,16 @@ use lib.ListN.{length, length-append}
 use lib.Seq.{sets}
 use lib.Dec.{leb, ltb}
 use borrow.Author.Tests.{not-false}
+use Rattle.std.specs.Prelude.{Result}
 use Rattle.ground.specs.Refuse.{first_of}
 use Rattle.ground.specs.Range.{all_below}
 use Rattle.ground.specs.Does.{Does}
 use Rattle.ground.proofs.Ranges.{all_intro, all_agree}
 use Rattle.ground.proofs.Refusals.{first_of_none, settled}
 use Rattle.ground.proofs.Once.{once}
-use Rattle.answer.specs.declared.Answer.{Answer}
-use Rattle.answer.specs.Code.{code_of}
-use Rattle.answer.proofs.Codes.{code_of_injective}
+use Rattle.answer.specs.declared.Refusal.{Refusal}
+use Rattle.answer.specs.Code.{number_of}
+use Rattle.answer.proofs.Codes.{answered_once, done_once}
 use Rattle.little.specs.Little.{digits, Bytes}
 use Rattle.little.proofs.AllBytes.{bytes_append}
 use Rattle.places.specs.Open.{open_count}
@@ -37,28 +38,29 @@ use Rattle.whole.specs.Whole.{checksum_of, page_right, header_right, sealed_page
 use Rattle.kind.proofs.Lengths.{Lent, AllLent, all_lent}
 use Rattle.page.proofs.Headers.{length_page_at, bytes_page_at, page_at_append, page_at_behind}
 use Rattle.whole.proofs.Rights.{Fitting, fitting_data, fitting_undo, fitting_status, length_sealed_page, status_at_sealed_page, txn_id_sealed_page, page_at_sealed_page_same, page_at_sealed_page_other, page_right_sealed, length_fresh_page, bytes_fresh_page, txn_id_fresh_page, status_at_fresh_page, page_right_fresh_page}
-use Rattle.keep.specs.declared.Opened.{Opened}
 use Rattle.keep.specs.Whole.{fresh_area, sealed_area, area_right, highest, ended, all_ended, store_right}
 use Rattle.keep.specs.Keep.{said, format_refusal, formatted, format_rule, seal_refusal, sealed, seal_rule, open_refusal, open_rule}
 
 -- ---- one answer: no second result meets a contract
 
-pub said_injective : (r r' : Opened) → said r ≡ said r' → r ≡ r'
-said_injective r r' e = ap₂ opened (code_of_injective r.answer r'.answer (ap (λ (p : ℕ × Desk). p.0) e)) (ap (λ (p : ℕ × Desk). p.1) e)
+pub said_injective : (r r' : Result Desk Refusal) → said r ≡ said r' → r ≡ r'
+said_injective r r' e =
+    answered_once r r' (ap (λ (p : ℕ × Desk). p.0) e)
+    (λ d d' is is'. ap desk_told (sym is) ∙ ap (λ (p : ℕ × Desk). p.1) e ∙ ap desk_told is')
   where
-    opened : Answer → Desk → Opened
-    opened answer desk = record { answer = answer; desk = desk }
+    desk_told : Result Desk Refusal → Desk
+    desk_told answered = (said answered).1
 
-pub format_once : (a : Areas) (r r' : Opened) (x x' : Areas) → Does (format_rule a) (said r) x → Does (format_rule a) (said r') x' → (r ≡ r') × (x ≡ x')
+pub format_once : (a : Areas) (r r' : Result Desk Refusal) (x x' : Areas) → Does (format_rule a) (said r) x → Does (format_rule a) (said r') x' → (r ≡ r') × (x ≡ x')
 format_once a r r' x x' p q = (said_injective r r' (once p q).0, (once p q).1)
 
-pub seal_once : (a : Areas) (d : Desk) (r r' : Answer) (x x' : Areas)
-    → Does (seal_rule a d) (code_of r) x
-    → Does (seal_rule a d) (code_of r') x'
+pub seal_once : (a : Areas) (d : Desk) (r r' : Result (Unit {0}) Refusal) (x x' : Areas)
+    → Does (seal_rule a d) (number_of r) x
+    → Does (seal_rule a d) (number_of r') x'
     → (r ≡ r') × (x ≡ x')
-seal_once a d r r' x x' p q = (code_of_injective r r' (once p q).0, (once p q).1)
+seal_once a d r r' x x' p q = (done_once r r' (once p q).0, (once p q).1)
 
-pub open_once : (a : Areas) (r r' : Opened) → said r ≡ open_rule a → said r' ≡ open_rule a → r ≡ r'
+pub open_once : (a : Areas) (r r' : Result Desk Refusal) → said r ≡ open_rule a → said r' ≡ open_rule a → r ≡ r'
 open_once a r r' p q = said_injective r r' (p ∙ sym q)
 
 -- ---- a refused call changes nothing, and what an accepted one leaves

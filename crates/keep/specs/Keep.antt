@@ -1,8 +1,10 @@
 -- The rules of format, seal and open: what each answers, and what it leaves in the areas ("01, The page", "01, When the desk says
 -- no"). Assumes nothing.
-use Rattle.std.specs.Prelude.{ℕ, ◌+◌, not, [], ◌∷◌, ltb}
+use Rattle.std.specs.Prelude.{ℕ, ◌+◌, not, [], ◌∷◌, ltb, Result}
+use Rattle.std.specs.Result.{result_unwrap_or}
 use Rattle.ground.specs.Refuse.{first_of, settle}
-use Rattle.answer.specs.Code.{code_of}
+use Rattle.answer.specs.declared.Refusal.{Refusal}
+use Rattle.answer.specs.Code.{number_of}
 use Rattle.places.specs.Open.{open_count}
 use Rattle.desk.specs.declared.Desk.{Desk}
 use Rattle.desk.specs.Desk.{first_number, fresh_desk, no_desk}
@@ -10,11 +12,10 @@ use Rattle.desk.specs.Sound.{sound}
 use Rattle.kind.specs.Kind.{pages, data_kind, undo_kind, status_kind}
 use Rattle.kind.specs.Areas.{Areas, areas, bad_length}
 use Rattle.keep.specs.Whole.{fresh_area, sealed_area, highest, store_right}
-use Rattle.keep.specs.declared.Opened.{Opened}
 
 -- the paper's number and value of what format and open answer
-abbrev pub said : Opened → ℕ × Desk
-said r = (code_of r.answer, r.desk)
+abbrev pub said : Result Desk Refusal → ℕ × Desk
+said r = (number_of r, result_unwrap_or r no_desk)
 
 -- ---- format
 

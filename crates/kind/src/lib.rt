@@ -1,9 +1,12 @@
 // The kinds of page ("01, The page", the table), and the lengths that areas may have.
 #![tactic(auto)]
 
-ghost use Rattle.std.specs.Prelude.{◌≡◌};
-ghost use Rattle.kind.specs.Kind.{pages, rows, entries, lengths_ok, length_ok};
+ghost use Rattle.std.specs.Prelude.{◌≡◌, ◌<◌, ◌^◌};
+ghost use Rattle.kind.specs.Kind.{page_size, pages, rows, entries, lengths_ok, length_ok};
+ghost use Rattle.kind.specs.Place.{place_of};
 
+// What the paper's table says of a kind. Of any kind that it is given, a function asks that its records lie in their page
+// (`page`'s `Roomy`): kept in a ghost field here, a proof of that would stand in each kind of the definitions.
 #[derive(Clone, Copy)]
 pub struct Kind {
     // page_type, engine_tag and free_space_offset of such a page
@@ -50,9 +53,18 @@ impl Kind {
     pub const HEADER: usize = 48;
 
     pub const VERSION: u8 = 1;
+
+    // Where record r of an area of this kind begins: "Slots and entries start at offset 48".
+    pub fn place(self, r: usize) -> usize
+        requires { (0 < self.count) × (place_of page_size self.size self.count r < 2 ^ 63) }
+        ensures { result ≡ place_of page_size self.size self.count r }
+    {
+        r / self.count * Kind::PAGE + (Kind::HEADER + r % self.count * self.size)
+    }
 }
 
-// How many pages an area has, how many rows a data area, and how many entries an undo area.
+// How many pages an area has, how many rows a data area, and how many entries an undo area. The paper has a word for each of the last
+// two; one function over a kind would be no shorter.
 pub fn pages(s: &[u8]) -> usize
     ensures { result ≡ pages s.now }
 {
@@ -71,6 +83,7 @@ pub fn entries(undo: &[u8]) -> usize
     pages(undo) * Kind::UNDO.count
 }
 
+#[tactic(auto, unfolding(crate::specs::Kind::length_ok))]
 fn length_ok(n: usize, most: usize) -> bool
     ensures { result ≡ length_ok most n }
 {
@@ -78,6 +91,7 @@ fn length_ok(n: usize, most: usize) -> bool
 }
 
 // Whether the lengths of the three areas are allowed.
+#[tactic(auto, unfolding(crate::specs::Kind::lengths_ok))]
 pub fn lengths_ok(d: usize, u: usize, s: usize) -> bool
     ensures { result ≡ lengths_ok d u s }
 {

@@ -9,18 +9,20 @@ use lib.Dec.{eqb, ltb}
 use borrow.Author.Tests.{ltb-false, le-ltb}
 use Rattle.lines.specs.Span.{parts, lacks}
 use Rattle.lines.proofs.Spans.{parts_joined, parts_alone}
+use Rattle.std.specs.Prelude.{Some, None}
+use Rattle.std.specs.Option.{unwrap_or}
 use Rattle.little.specs.Little.{Bytes}
 use Rattle.numeral.specs.Numeral.{numeral_of, hex_of}
 use Rattle.numeral.proofs.Laws.{number_back, numeral_length, numeral_no_tab, numeral_no_newline, body_back, hex_length, hex_no_tab, hex_no_newline}
 use Rattle.line.specs.declared.Verb.{Verb}
 use Rattle.line.specs.declared.Verb.TheVariants.{Format, Open, Seal, Begin, Next, Insert, Update, Delete, Read, Commit, Withdraw, Sweep, IllFormed}
 use Rattle.line.specs.declared.Command.{Command}
-use Rattle.line.specs.Line.{word_of, same_as, verb_in, verb_of, numbers_of, bodied, take_number, take_body, no_body, ill, command_in, command_of, longest, wanted, line_of, Proper}
+use Rattle.line.specs.Line.{word_of, verb_in, verb_of, numbers_of, bodied, take_number, take_body, no_body, ill, named, call_in, command_of, longest, wanted, line_of, Proper}
 
 -- ---- names
 
 pub verb_back : (v : Verb) → (v ≡ IllFormed → ⊥) → verb_of (word_of v) ≡ v
-unfolding word_of same_as verb_in verb_of
+unfolding word_of verb_in verb_of
 verb_back Format h = refl
 verb_back Open h = refl
 verb_back Seal h = refl
@@ -70,11 +72,11 @@ behind_more true f rest fs l b w h = parts_joined 9 w (f ++ rest) h ∙ ap (λ (
 behind_more false f rest fs l b w h = b w h
 
 -- a number and a body written are taken again, and nothing is left of them
-number_taken : (t : Bool) (n : ℕ) (fs : List (List ℕ)) → n < 2 ^ 64 → (t ≡ false → n ≡ 0) → take_number t (asked t (numeral_of n) ++ fs) ≡ (true, n, fs)
+number_taken : (t : Bool) (n : ℕ) (fs : List (List ℕ)) → n < 2 ^ 64 → (t ≡ false → n ≡ 0) → take_number t (asked t (numeral_of n) ++ fs) ≡ (Some n, fs)
 number_taken true n fs h z = rw (number_back n h)
 number_taken false n fs h z = rw (z refl)
 
-body_taken : (t : Bool) (b : List ℕ) → length b ≡ 32 → Bytes b → (t ≡ false → b ≡ no_body) → take_body t (asked t (hex_of b) ++ []) ≡ (true, b, [])
+body_taken : (t : Bool) (b : List ℕ) → length b ≡ 32 → Bytes b → (t ≡ false → b ≡ no_body) → take_body t (asked t (hex_of b) ++ []) ≡ (Some b, [])
 body_taken true b l h z = rw ((body_back b l h).0, (body_back b l h).1)
 body_taken false b l h z = rw (z refl)
 
@@ -151,10 +153,10 @@ module _ (c : Command) (p : Proper c) where
       flat = simp (append_assoc, append-nil)
 
   pub command_back : command_of (line_of c) ≡ c
-  unfolding command_of
+  unfolding call_in command_of
   command_back =
-      ap (λ (t : Bool). cond t ill (command_in (parts 9 (line_of c)))) (le-ltb longest (length (line_of c)) line_length)
-      ∙ ap command_in line_parts
+      ap (λ (t : Bool). unwrap_or (cond t None (named (parts 9 (line_of c)))) ill) (le-ltb longest (length (line_of c)) line_length)
+      ∙ ap (λ (fs : List (List ℕ)). unwrap_or (named fs) ill) line_parts
       ∙ rw (
         verb_back c.verb p.named,
         number_taken first_said c.first (asked second_said (numeral_of c.second) ++ (asked (bodied c.verb) (hex_of c.body) ++ [])) p.first_fits first_zero,

@@ -1,4 +1,4 @@
 pub mod Names
-pub mod Fields
-pub mod Back
+pub mod Taken
 pub mod Said
+pub mod Back

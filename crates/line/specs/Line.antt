@@ -1,9 +1,10 @@
 -- A line of a script and the call that it says, both ways ("01, The script and one whole run"). Assumes nothing.
-use Rattle.std.specs.Prelude.{◌≡◌, ℕ, ◌+◌, ◌^◌, ◌<◌, Bool, true, false, ◌&&◌, cond, List, [], ◌∷◌, ◌++◌, length, drop, replicate, eqb, ltb}
+use denote.Ref.{Bor}
+use Rattle.std.specs.Option.{unwrap_or}
+use Rattle.std.specs.Str.{bytes_eq}
+use Rattle.std.specs.Prelude.{◌≡◌, ℕ, ◌^◌, ◌<◌, Bool, true, false, cond, Option, Some, None, List, [], ◌∷◌, ◌++◌, length, replicate, ltb}
 use Rattle.little.specs.Little.{Bytes}
-use Rattle.numeral.specs.declared.Number.{Number}
-use Rattle.numeral.specs.declared.Number.TheVariants.{Is, Not}
-use Rattle.numeral.specs.Numeral.{number_in, numeral_of, is_body, body_in, hex_of}
+use Rattle.numeral.specs.Numeral.{number_in, numeral_of, body_said, hex_of}
 use Rattle.lines.specs.Span.{parts}
 use Rattle.line.specs.declared.Verb.{Verb}
 use Rattle.line.specs.declared.Verb.TheVariants.{Format, Open, Seal, Begin, Next, Insert, Update, Delete, Read, Commit, Withdraw, Sweep, IllFormed}
@@ -30,16 +31,9 @@ word_of IllFormed = []
 abbrev pub verbs : List Verb
 verbs = Format ∷ Open ∷ Seal ∷ Begin ∷ Next ∷ Insert ∷ Update ∷ Delete ∷ Read ∷ Commit ∷ Withdraw ∷ Sweep ∷ []
 
--- whether two texts are the same
-unfoldable pub same_as : List ℕ → List ℕ → Bool
-same_as [] [] = true
-same_as [] (y ∷ ys) = false
-same_as (x ∷ xs) [] = false
-same_as (x ∷ xs) (y ∷ ys) = eqb x y && same_as xs ys
-
 unfoldable pub verb_in : List Verb → List ℕ → Verb
 verb_in [] name = IllFormed
-verb_in (v ∷ vs) name = cond (same_as name (word_of v)) v (verb_in vs name)
+verb_in (v ∷ vs) name = cond (bytes_eq name (word_of v)) v (verb_in vs name)
 
 unfoldable pub verb_of : List ℕ → Verb
 verb_of name = verb_in verbs name
@@ -84,28 +78,25 @@ bodied IllFormed = false
 abbrev pub fields : List ℕ → List (List ℕ)
 fields line = parts 9 line
 
--- the fields behind the one that ends at a place
-unfoldable pub left : List ℕ → ℕ → List (List ℕ)
-left line at = cond (ltb at (length line)) (fields (drop (at + 1) line)) []
+-- the fields of the text behind a tab; none where no tab was left
+abbrev pub left : Option (Bor (List ℕ)) → List (List ℕ)
+left None = []
+left (Some rest) = fields rest.now
 
--- one field off the front as a number, where one is wanted: whether it is there, what it says, and the fields behind it
-abbrev pub said_by : Number → List (List ℕ) → Bool × ℕ × List (List ℕ)
-said_by (Is n) fs = (true, n, fs)
-said_by Not fs = (false, 0, fs)
-
-abbrev pub take_number : Bool → List (List ℕ) → Bool × ℕ × List (List ℕ)
-take_number false fs = (true, 0, fs)
-take_number true [] = (false, 0, [])
-take_number true (f ∷ fs) = said_by (number_in f) fs
+-- one field off the front as a number, where one is wanted, else zero; and the fields behind it
+abbrev pub take_number : Bool → List (List ℕ) → Option ℕ × List (List ℕ)
+take_number false fs = (Some 0, fs)
+take_number true [] = (None, [])
+take_number true (f ∷ fs) = (number_in f, fs)
 
 -- and as a body
 abbrev pub no_body : List ℕ
 no_body = replicate 32 0
 
-abbrev pub take_body : Bool → List (List ℕ) → Bool × List ℕ × List (List ℕ)
-take_body false fs = (true, no_body, fs)
-take_body true [] = (false, no_body, [])
-take_body true (f ∷ fs) = (is_body f, body_in f, fs)
+abbrev pub take_body : Bool → List (List ℕ) → Option (List ℕ) × List (List ℕ)
+take_body false fs = (Some no_body, fs)
+take_body true [] = (None, [])
+take_body true (f ∷ fs) = (body_said f, fs)
 
 abbrev pub command : Verb → ℕ → ℕ → List ℕ → Command
 command v a b body = record { verb = v; first = a; second = b; body = body }
@@ -113,31 +104,36 @@ command v a b body = record { verb = v; first = a; second = b; body = body }
 abbrev pub ill : Command
 ill = command IllFormed 0 0 no_body
 
-abbrev pub none : List (List ℕ) → Bool
-none [] = true
-none (f ∷ fs) = false
-
 -- each field wanted is there, and none is left
-abbrev pub settled : Verb → (Bool × ℕ × List (List ℕ)) → (Bool × ℕ × List (List ℕ)) → (Bool × List ℕ × List (List ℕ)) → Command
-settled v a b c = cond (a.0 && b.0 && c.0 && none c.2) (command v a.1 b.1 c.1) ill
+abbrev pub settled : Verb → Option ℕ → Option ℕ → Option (List ℕ) → List (List ℕ) → Option Command
+settled v None b c fs = None
+settled v (Some first) None c fs = None
+settled v (Some first) (Some second) None fs = None
+settled v (Some first) (Some second) (Some body) [] = Some (command v first second body)
+settled v (Some first) (Some second) (Some body) (f ∷ fs) = None
 
-abbrev pub called : Verb → List (List ℕ) → Command
+abbrev pub called : Verb → List (List ℕ) → Option Command
 called v fs =
     let a = take_number (ltb 0 (numbers_of v)) fs in
-    let b = take_number (ltb 1 (numbers_of v)) a.2 in
-    let c = take_body (bodied v) b.2 in
-    settled v a b c
+    let b = take_number (ltb 1 (numbers_of v)) a.1 in
+    let c = take_body (bodied v) b.1 in
+    settled v a.0 b.0 c.0 c.1
 
-abbrev pub command_in : List (List ℕ) → Command
-command_in [] = ill
-command_in (name ∷ fs) = called (verb_of name) fs
+abbrev pub named : List (List ℕ) → Option Command
+named [] = None
+named (name ∷ fs) = called (verb_of name) fs
 
 -- "at most 128 bytes before it"
 unfoldable pub longest : ℕ
 longest = 128
 
+-- the call that a line says, if any
+unfoldable pub call_in : List ℕ → Option Command
+call_in line = cond (ltb longest (length line)) None (named (fields line))
+
+-- for every line there is a call
 unfoldable pub command_of : List ℕ → Command
-command_of line = cond (ltb longest (length line)) ill (command_in (fields line))
+command_of line = unwrap_or (call_in line) ill
 
 -- ---- a call written
 

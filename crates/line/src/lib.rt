@@ -1,13 +1,12 @@
 // One line of a script as a call ("01, The script and one whole run"): "One call a line, fields parted by one tab".
 #![tactic(auto)]
 
-ghost use Rattle.std.specs.Prelude.{◌≡◌, ◌≤◌, length};
-ghost use Rattle.line.specs.Line.{same_as, verb_of, numbers_of, bodied, command_of, ill, take_number, take_body, left};
+ghost use Rattle.std.specs.Prelude.{◌≡◌, ◌∷◌, [], Some, None, MatchOption, IsSome};
+ghost use Rattle.line.specs.Line.{word_of, verb_of, numbers_of, bodied, call_in, command_of, ill, take_number, take_body, left};
 
-use numeral::Number;
-
-// The calls by name, and that a line is none.
-#[derive(Clone, Copy)]
+// The calls by name, and that a line is none: for every line there is a call (docs/DECISIONS.md, "An ill-formed line is a call that does
+// nothing").
+#[derive(Clone, Copy, PartialEq, Eq)]
 pub enum Verb {
     Format,
     Open,
@@ -24,7 +23,7 @@ pub enum Verb {
     IllFormed,
 }
 
-// A call as its line says it. What its line does not say is zero.
+// A call as its line says it. What its line does not say is zero, as the definitions of a call have it.
 #[derive(Drop)]
 pub struct Command {
     pub verb: Verb,
@@ -33,182 +32,147 @@ pub struct Command {
     pub body: [u8; 32],
 }
 
-// A number field, and where it ends.
+// The fields of a line that are still to be read: those of the text behind a tab; none where no tab was left.
 #[derive(Drop)]
-struct NumberField {
-    good: bool,
-    value: u64,
-    end: usize,
-}
-
-// A body field, and where it ends.
-#[derive(Drop)]
-struct BodyField {
-    good: bool,
-    bytes: [u8; 32],
-    end: usize,
+struct Fields<'a> {
+    rest: Option<&'a [u8]>,
 }
 
 // "at most 128 bytes before it"
 pub const LONGEST: usize = 128;
 
-// Whether two texts are the same.
-fn same(a: &[u8], b: &[u8]) -> bool
-    ensures { result ≡ same_as a.now b.now }
-{
-    if a.len() != b.len() {
-        return false;
-    }
-    let mut i = 0;
-    while i < a.len() {
-        if a[i] != b[i] {
-            return false;
+impl Verb {
+    // The calls, in the order of the table.
+    const ALL: [Verb; 12] = [
+        Verb::Format,
+        Verb::Open,
+        Verb::Seal,
+        Verb::Begin,
+        Verb::Next,
+        Verb::Insert,
+        Verb::Update,
+        Verb::Delete,
+        Verb::Read,
+        Verb::Commit,
+        Verb::Withdraw,
+        Verb::Sweep,
+    ];
+
+    // The name of a call, as a line writes it.
+    #[tactic(auto, unfolding(crate::specs::Line::word_of))]
+    fn word(self) -> &'static [u8]
+        ensures { result.now ≡ word_of self }
+    {
+        match self {
+            Verb::Format => b"format",
+            Verb::Open => b"open",
+            Verb::Seal => b"seal",
+            Verb::Begin => b"begin",
+            Verb::Next => b"next",
+            Verb::Insert => b"insert",
+            Verb::Update => b"update",
+            Verb::Delete => b"delete",
+            Verb::Read => b"read",
+            Verb::Commit => b"commit",
+            Verb::Withdraw => b"withdraw",
+            Verb::Sweep => b"sweep",
+            Verb::IllFormed => b"",
         }
-        i += 1;
     }
-    true
+
+    // How many numbers stand behind it.
+    fn numbers(self) -> usize
+        ensures { result ≡ numbers_of self }
+    {
+        match self {
+            Verb::Format | Verb::Update | Verb::Delete | Verb::Read | Verb::Sweep => 2,
+            Verb::Next | Verb::Insert | Verb::Commit | Verb::Withdraw => 1,
+            Verb::Open | Verb::Seal | Verb::Begin | Verb::IllFormed => 0,
+        }
+    }
+
+    // Whether a body stands behind them.
+    fn has_body(self) -> bool
+        ensures { result ≡ bodied self }
+    {
+        matches!(self, Verb::Insert | Verb::Update)
+    }
 }
 
 // The call that a name says.
 fn verb_of(name: &[u8]) -> Verb
     ensures { result ≡ verb_of name.now }
 {
-    if same(name, b"format") {
-        Verb::Format
-    } else if same(name, b"open") {
-        Verb::Open
-    } else if same(name, b"seal") {
-        Verb::Seal
-    } else if same(name, b"begin") {
-        Verb::Begin
-    } else if same(name, b"next") {
-        Verb::Next
-    } else if same(name, b"insert") {
-        Verb::Insert
-    } else if same(name, b"update") {
-        Verb::Update
-    } else if same(name, b"delete") {
-        Verb::Delete
-    } else if same(name, b"read") {
-        Verb::Read
-    } else if same(name, b"commit") {
-        Verb::Commit
-    } else if same(name, b"withdraw") {
-        Verb::Withdraw
-    } else if same(name, b"sweep") {
-        Verb::Sweep
-    } else {
-        Verb::IllFormed
+    Verb::ALL
+        .iter()
+        .find(|verb| name == verb.word())
+        .copied()
+        .unwrap_or(Verb::IllFormed)
+}
+
+impl<'a> Fields<'a> {
+    // The next field, up to a tab or the end of the line.
+    fn next(&mut self) -> Option<&'a [u8]>
+        ensures { MatchOption result (left self.old.rest ≡ []) (λ f. left self.old.rest ≡ f.now ∷ left self.new.rest) }
+    {
+        let rest = self.rest?;
+        let end = lines::find(rest, 0, lines::TAB);
+        let (field, behind) = rest.split_at(end);
+        self.rest = behind.get(1..);
+        Some(field)
+    }
+
+    // The next field as a number, where one is wanted; else zero.
+    fn number(&mut self, wanted: bool) -> Option<u64>
+        ensures { MatchOption result ((take_number wanted (left self.old.rest)).0 ≡ None) (λ n. take_number wanted (left self.old.rest) ≡ (Some n, left self.new.rest)) }
+    {
+        if !wanted {
+            return Some(0);
+        }
+        numeral::read_number(self.next()?)
+    }
+
+    // The next field as a body, where one is wanted; else zeros.
+    fn body(&mut self, wanted: bool) -> Option<[u8; 32]>
+        ensures { MatchOption result ((take_body wanted (left self.old.rest)).0 ≡ None) (λ b. take_body wanted (left self.old.rest) ≡ (Some b, left self.new.rest)) }
+    {
+        if !wanted {
+            return Some([0; 32]);
+        }
+        numeral::read_body(self.next()?)
+    }
+
+    // That no field is left.
+    fn end(&self) -> Option<()>
+        ensures { MatchOption result (IsSome self.now.rest) (λ _. self.now.rest ≡ None) }
+    {
+        match self.rest {
+            None => Some(()),
+            Some(_) => None,
+        }
     }
 }
 
-// How many numbers stand behind a name.
-fn numbers(verb: Verb) -> usize
-    ensures { result ≡ numbers_of verb }
+// The call that a line says; none where it says none.
+fn call_in(line: &[u8]) -> Option<Command>
+    ensures { result ≡ call_in line.now }
 {
-    match verb {
-        Verb::Format => 2,
-        Verb::Open => 0,
-        Verb::Seal => 0,
-        Verb::Begin => 0,
-        Verb::Next => 1,
-        Verb::Insert => 1,
-        Verb::Update => 2,
-        Verb::Delete => 2,
-        Verb::Read => 2,
-        Verb::Commit => 1,
-        Verb::Withdraw => 1,
-        Verb::Sweep => 2,
-        Verb::IllFormed => 0,
+    if line.len() > LONGEST {
+        return None;
     }
-}
-
-// Whether a body stands behind them.
-fn has_body(verb: Verb) -> bool
-    ensures { result ≡ bodied verb }
-{
-    match verb {
-        Verb::Format => false,
-        Verb::Open => false,
-        Verb::Seal => false,
-        Verb::Begin => false,
-        Verb::Next => false,
-        Verb::Insert => true,
-        Verb::Update => true,
-        Verb::Delete => false,
-        Verb::Read => false,
-        Verb::Commit => false,
-        Verb::Withdraw => false,
-        Verb::Sweep => false,
-        Verb::IllFormed => false,
-    }
-}
-
-// The next field as a number, where one is wanted: behind a tab at `at`.
-fn number_at(line: &[u8], at: usize, wanted: bool) -> NumberField
-    requires { at ≤ length line.now }
-    ensures inside { result.end ≤ length line.now }
-    ensures reads { (result.good, result.value, left line.now result.end) ≡ take_number wanted (left line.now at) }
-{
-    if !wanted {
-        return NumberField {
-            good: true,
-            value: 0,
-            end: at,
-        };
-    }
-    if at == line.len() {
-        return NumberField {
-            good: false,
-            value: 0,
-            end: at,
-        };
-    }
-    let from = at + 1;
-    let end = lines::find(line, from, lines::TAB);
-    match numeral::read_number(&line[from..end]) {
-        Number::Is(value) => NumberField {
-            good: true,
-            value,
-            end,
-        },
-        Number::Not => NumberField {
-            good: false,
-            value: 0,
-            end,
-        },
-    }
-}
-
-// The next field as a body, where one is wanted.
-fn body_at(line: &[u8], at: usize, wanted: bool) -> BodyField
-    requires { at ≤ length line.now }
-    ensures inside { result.end ≤ length line.now }
-    ensures reads { (result.good, result.bytes, left line.now result.end) ≡ take_body wanted (left line.now at) }
-{
-    if !wanted {
-        return BodyField {
-            good: true,
-            bytes: [0; 32],
-            end: at,
-        };
-    }
-    if at == line.len() {
-        return BodyField {
-            good: false,
-            bytes: [0; 32],
-            end: at,
-        };
-    }
-    let from = at + 1;
-    let end = lines::find(line, from, lines::TAB);
-    let read = numeral::read_body(&line[from..end]);
-    let bytes = read.bytes;
-    BodyField {
-        good: read.good,
-        bytes,
-        end,
-    }
+    let mut fields = Fields { rest: Some(line) };
+    let verb = verb_of(fields.next()?);
+    let n = verb.numbers();
+    let first = fields.number(n > 0)?;
+    let second = fields.number(n > 1)?;
+    let body = fields.body(verb.has_body())?;
+    fields.end()?;
+    Some(Command {
+        verb,
+        first,
+        second,
+        body,
+    })
 }
 
 // What an ill-formed line says.
@@ -224,27 +188,9 @@ pub fn ill_formed() -> Command
 }
 
 // The call that a line says, without its newline.
+#[tactic(auto, unfolding(crate::specs::Line::command_of))]
 pub fn read_command(line: &[u8]) -> Command
     ensures { result ≡ command_of line.now }
 {
-    if line.len() > LONGEST {
-        return ill_formed();
-    }
-    let end = lines::find(line, 0, lines::TAB);
-    let verb = verb_of(&line[0..end]);
-    let n = numbers(verb);
-    let first = number_at(line, end, n > 0);
-    let second = number_at(line, first.end, n > 1);
-    let last = body_at(line, second.end, has_body(verb));
-    let body = last.bytes;
-    if first.good & second.good & last.good & (last.end == line.len()) {
-        Command {
-            verb,
-            first: first.value,
-            second: second.value,
-            body,
-        }
-    } else {
-        ill_formed()
-    }
+    call_in(line).unwrap_or(ill_formed())
 }

@@ -5,24 +5,9 @@ use mathlib.Core.List.{List}
 use Prim.Native.Nat.{ℕ, ◌+◌, ◌≤◌, ◌<◌}
 use native.Mathlib.Omega.{arith}
 use lib.ListN.{length}
-use lib.Dec.{ltb}
-use borrow.Author.Tests.{lt-ltb, le-ltb, ltb-true, ltb-false}
+use borrow.Author.Tests.{ltb-true, ltb-false}
 use Rattle.lines.specs.declared.Line.{Line}
 use Rattle.lines.specs.Lines.{end_from, ended_from, line_at}
-
--- a line by where it ends, and whether its newline is there
-abbrev told : ℕ → ℕ → Bool → Line
-told at end b = record { start = at; end = end; ended = b; behind = cond b (end + 1) end }
-
-pub line_ended : (text : List ℕ) (at end : ℕ) → end ≡ end_from text at → end < length text
-    → record { start = at; end = end; ended = true; behind = end + 1 } ≡ line_at text at
-unfolding line_at
-line_ended text at end e h = ap (told at end) (sym (lt-ltb end (length text) h)) ∙ ap (λ (n : ℕ). told at n (ltb n (length text))) e
-
-pub line_unended : (text : List ℕ) (at end : ℕ) → end ≡ end_from text at → length text ≤ end
-    → record { start = at; end = end; ended = false; behind = end } ≡ line_at text at
-unfolding line_at
-line_unended text at end e h = ap (told at end) (sym (le-ltb end (length text) h)) ∙ ap (λ (n : ℕ). told at n (ltb n (length text))) e
 
 -- what a line tells
 module _ (text : List ℕ) (at : ℕ) (l : Line) (e : l ≡ line_at text at) where

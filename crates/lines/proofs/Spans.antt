@@ -3,12 +3,14 @@ use mathlib.Core.Path.{◌≡◌, refl, sym, ap, ◌∙◌}
 use mathlib.Core.Bool.{Bool, true, false, not, ◌&&◌, cond}
 use mathlib.Core.List.{List, [], ◌∷◌, ◌++◌, append_assoc}
 use Prim.Native.Nat.{ℕ, suc, ◌+◌, ◌≤◌, ◌<◌}
-use native.Mathlib.Numerals.{add-one}
 use native.Mathlib.Omega.{arith}
-use lib.ListN.{length, take, drop, get_or, drop_of_length-le}
-use lib.Seq.{take-length, drop-cons}
+use lib.ListN.{length, take, drop, drop_of_length-le}
+use lib.Seq.{take-length}
 use lib.Dec.{eqb, ltb, leb-suc-suc}
-use borrow.Author.Tests.{eqb-true, eq-eqb, ne_eqb, lt-ltb, le-ltb}
+use borrow.Author.Tests.{eqb-true, eq-eqb, lt-ltb, le-ltb, ltb-false}
+use Rattle.std.specs.Prelude.{Some, None}
+use Rattle.std.specs.Option.{unwrap_or}
+use Rattle.std.specs.List.{prefix_len, position, position_or_len}
 use Rattle.lines.specs.Span.{before, onto, parts, lacks}
 
 -- ---- before
@@ -66,16 +68,27 @@ before_split b (x ∷ xs) h = by (eqb x b) refl (before_split b xs) h
         ap (λ (r : List ℕ). x ∷ r) (e (omega arith))
         ∙ ap (λ (n : ℕ). x ∷ (before b xs ++ (b ∷ drop n (x ∷ xs)))) more
 
--- ---- the steps of a search from a place on
-
-pub before_here : (b i : ℕ) (s : List ℕ) → i < length s → get_or s i 0 ≡ b → length (before b (drop i s)) ≡ 0
+-- as long as the front that passes
+pub before_front : (b : ℕ) (s : List ℕ) → length (before b s) ≡ prefix_len (λ x. not (eqb x b)) s
 unfolding before
-before_here b i s h e = rw (drop-cons s i 0 h, eq-eqb (get_or s i 0) b e)
+before_front b [] = refl
+before_front b (x ∷ xs) = by (eqb x b) (before_front b xs)
+  where
+    by : (t : Bool) → length (before b xs) ≡ prefix_len (λ x. not (eqb x b)) xs
+        → length (cond t [] (x ∷ before b xs)) ≡ cond (not t) (1 + prefix_len (λ x. not (eqb x b)) xs) 0
+    by true e = refl
+    by false e = omega (arith, e)
 
-pub before_next : (b i : ℕ) (s : List ℕ) → i < length s → (get_or s i 0 ≡ b → ⊥)
-    → length (before b (drop i s)) ≡ suc (length (before b (drop (i + 1) s)))
-unfolding before
-before_next b i s h ne = rw (add-one, drop-cons s i 0 h, ne_eqb (get_or s i 0) b ne)
+-- which is where the first b stands, or the text's end
+pub before_position : (b : ℕ) (s : List ℕ) → unwrap_or (position (λ x. eqb x b) s) (length s) ≡ length (before b s)
+before_position b s = by (ltb (position_or_len (λ x. eqb x b) s) (length s)) refl
+  where
+    by : (t : Bool) → ltb (position_or_len (λ x. eqb x b) s) (length s) ≡ t
+        → unwrap_or (cond t (Some (position_or_len (λ x. eqb x b) s)) None) (length s) ≡ length (before b s)
+    by true e = sym (before_front b s)
+    by false e = omega (arith, before_front b s, before_length b s, ltb-false (position_or_len (λ x. eqb x b) s) (length s) e)
+
+-- ---- past the end
 
 pub before_end : (b i : ℕ) (s : List ℕ) → length s ≤ i → length (before b (drop i s)) ≡ 0
 unfolding before

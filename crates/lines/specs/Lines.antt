@@ -3,7 +3,6 @@ use Rattle.std.specs.Prelude.{ℕ, ◌+◌, Bool, cond, List, length, drop, ltb}
 use Rattle.lines.specs.Span.{before}
 use Rattle.lines.specs.declared.Line.{Line}
 use Rattle.lines.specs.declared.Reader.{Reader}
-use Rattle.lines.specs.declared.Read.{Read}
 
 -- where the line that begins at a place ends
 abbrev pub end_from : List ℕ → ℕ → ℕ
@@ -22,8 +21,8 @@ line_at text at = record {
   behind = cond (ended_from text at) (end_from text at + 1) (end_from text at);
 }
 
--- what a reader hands back: the line at its place, and the reader of the same text behind that line
-abbrev pub read_from : Reader → Read
+-- what a reader answers: the line at its place; and the reader then, of the same text behind that line
+abbrev pub read_from : Reader → Line × Reader
 read_from r =
     let l = line_at r.text.now r.at in
-    record { line = l; reader = record { text = r.text; at = l.behind } }
+    (l, record { text = r.text; at = l.behind })

@@ -12,6 +12,7 @@ pub const TAB: u8 = 9;
 pub const NEWLINE: u8 = 10;
 
 // A line of a text: where it begins and ends, whether a newline ends it or the text does, and the place behind it.
+// An unended line has an end and a place behind it too, so that no Option could say it.
 #[derive(Clone, Copy)]
 pub struct Line {
     pub start: usize,
@@ -20,73 +21,60 @@ pub struct Line {
     pub behind: usize,
 }
 
-// The lent text, and a place in it.
+// The lent text, and a place in it. No `Iterator`: behind the last newline stands a line too, an unended one, so there is always a next.
 #[derive(Drop)]
 pub struct Reader<'a> {
     pub text: &'a [u8],
     pub at: usize,
 }
 
-// What a reader hands back: the line that begins at its place, and the reader moved on behind it.
-#[derive(Drop)]
-pub struct Read<'a> {
-    pub line: Line,
-    pub reader: Reader<'a>,
-}
-
-// Where the next b stands, from a place on; at the text's end where there is none.
+// Where the next b stands, from a place on; at the text's end, where a field ends too, if there is none.
 pub fn find(s: &[u8], from: usize, b: u8) -> usize
     ensures { result ≡ from + length (before b (drop from s.now)) }
 {
-    let mut i = from;
-    while i < s.len() {
-        if s[i] == b {
-            return i;
-        }
-        i += 1;
+    match s.get(from..) {
+        Some(rest) => from + before(rest, b),
+        None => from,
     }
-    i
+}
+
+// How many bytes stand before the first b.
+fn before(s: &[u8], b: u8) -> usize
+    ensures { result ≡ length (before b s.now) }
+{
+    s.iter().position(|&x| x == b).unwrap_or(s.len())
 }
 
 // The work: the line that begins at a place of a text.
+#[tactic(auto, unfolding(crate::specs::Lines::line_at))]
 pub fn line_at(text: &[u8], at: usize) -> Line
     ensures { result ≡ line_at text.now at }
 {
     let end = find(text, at, NEWLINE);
-    if end < text.len() {
-        Line {
-            start: at,
-            end,
-            ended: true,
-            behind: end + 1,
-        }
-    } else {
-        Line {
-            start: at,
-            end,
-            ended: false,
-            behind: end,
-        }
+    let ended = end < text.len();
+    let behind = if ended { end + 1 } else { end };
+    Line {
+        start: at,
+        end,
+        ended,
+        behind,
     }
 }
 
-// A reader of a text, at its start.
-pub fn new<'a>(text: &'a [u8]) -> Reader<'a>
-    ensures { (result.text ≡ text.entry) × (result.at ≡ 0) }
-{
-    Reader { text, at: 0 }
-}
+impl<'a> Reader<'a> {
+    // A reader of a text, at its start.
+    pub fn new(text: &'a [u8]) -> Reader<'a>
+        ensures { (result.text ≡ text.entry) × (result.at ≡ 0) }
+    {
+        Reader { text, at: 0 }
+    }
 
-// The reader's line, and the reader moved on.
-pub fn next<'a>(r: Reader<'a>) -> Read<'a>
-    ensures { result ≡ read_from r.entry }
-{
-    let line = line_at(r.text, r.at);
-    Read {
-        line,
-        reader: Reader {
-            text: r.text,
-            at: line.behind,
-        },
+    // The reader's line; the reader moves on behind it.
+    pub fn next_line(&mut self) -> Line
+        ensures { (result, self.new) ≡ read_from self.old }
+    {
+        let line = line_at(self.text, self.at);
+        self.at = line.behind;
+        line
     }
 }

@@ -1,11 +1,14 @@
 -- A number and its bytes, over every width: each is read from the other. Assumes nothing.
 use mathlib.Core.Path.{◌≡◌, refl, sym, ap, ap₂, ◌∙◌, subst}
 use mathlib.Core.List.{List, [], ◌∷◌, ◌++◌}
-use Prim.Native.Nat.{ℕ, zero, suc, ◌+◌, ◌*◌, ◌/◌, ◌%◌, ◌^◌, ◌<◌}
-use native.Mathlib.Nat.{zero-add, suc-add, pow-suc, pow-succ', mul_assoc, div-lt_iff_lt-mul, div-div-eq-div-mul, pow-zero, one-le-pow}
+use Prim.Native.Nat.{ℕ, zero, suc, ◌+◌, ◌-◌, ◌*◌, ◌/◌, ◌%◌, ◌^◌, ◌<◌}
+use native.Mathlib.Nat.{pow-suc, pow-succ', mul_assoc, mul_comm, div-lt_iff_lt-mul, div-div-eq-div-mul, pow-zero, one-le-pow}
 use native.Mathlib.Omega.{arith}
 use lib.Arith.{mod-mul}
-use lib.ListN.{length}
+use lib.ListN.{length, take}
+use lib.Seq.{take-suc, length-take-le, take_all}
+use Rattle.std.specs.Int.{Width, byte_at, byte_len, byte_worth, bytes_low_first, sum_through, to_le_bytes, from_le_bytes}
+use Rattle.std.specs.List.{slice_index}
 use Rattle.little.specs.Little.{little, digits, Bytes}
 
 pub length_digits : (w v : ℕ) → length (digits w v) ≡ w
@@ -30,15 +33,6 @@ little_append (b ∷ x) y =
     in
     omega (arith, little_append x y)
 
-pub digits_add : (a b v : ℕ) → digits (a + b) v ≡ digits a v ++ digits b (v / 256 ^ a)
-unfolding digits
-digits_add zero b v = ap (λ (n : ℕ). digits n v) (zero-add b) ∙ ap (digits b) (omega arith)
-digits_add (suc a) b v =
-    ap (λ (n : ℕ). digits n v) (suc-add a b)
-    ∙ ap (λ (r : List ℕ). v % 256 ∷ r)
-    (digits_add a b (v / 256)
-    ∙ ap (λ (n : ℕ). digits a (v / 256) ++ digits b n) (div-div-eq-div-mul v 256 (256 ^ a) ∙ ap (λ (n : ℕ). v / n) (sym (pow-succ' 256 a))))
-
 -- the bytes above the width do not count
 pub digits_low : (w v : ℕ) → digits w (v % 256 ^ w) ≡ digits w v
 unfolding digits
@@ -61,3 +55,34 @@ pub little_below : (l : List ℕ) → Bytes l → little l < 256 ^ length l
 unfolding little
 little_below [] h = omega (arith, pow-zero 256)
 little_below (b ∷ l) h = omega (arith, pow-succ' 256 (length l), little_below l h.1, h.0)
+
+-- ---- std's bytes of a number are these
+
+low_first : (k i v : ℕ) → bytes_low_first i k v ≡ digits k (v / 256 ^ i)
+unfolding digits
+low_first zero i v = refl
+low_first (suc k) i v = ap₂ ◌∷◌ (byte i) (low_first k (suc i) v ∙ ap (digits k) next)
+  where
+    byte : (i : ℕ) → byte_at i v ≡ v / 256 ^ i % 256
+    byte zero = omega (arith, pow-zero 256)
+    byte (suc i) = refl
+
+    next : v / 256 ^ suc i ≡ v / 256 ^ i / 256
+    next = ap (λ n. v / n) (pow-suc 256 i) ∙ sym (div-div-eq-div-mul v (256 ^ i) 256)
+
+pub digits_std : (w : Width) (v : ℕ) → to_le_bytes w v ≡ digits (byte_len w) v
+digits_std w v = low_first (byte_len w) 0 v ∙ ap (digits (byte_len w)) (omega (arith, pow-zero 256))
+
+through : (k : ℕ) (l : List ℕ) → k < length l → sum_through (λ i. byte_worth i (slice_index l i)) k ≡ little (take (suc k) l)
+unfolding little
+through zero [] h = absurd (omega arith)
+through zero (b ∷ l) h = omega arith
+through (suc k) l h =
+    sym (ap little (take-suc l (suc k) 0 h)
+    ∙ little_append (take (suc k) l) (slice_index l (suc k) ∷ [])
+    ∙ omega (arith, ap (λ n. 256 ^ n * slice_index l (suc k)) (length-take-le (suc k) l (omega arith)), mul_comm (256 ^ suc k) (slice_index l (suc k)), through k l (omega arith)))
+
+pub little_std : (w : Width) (l : List ℕ) → 0 < byte_len w → length l ≡ byte_len w → from_le_bytes w l ≡ little l
+little_std w l some long =
+    let last : suc (byte_len w - 1) ≡ byte_len w = omega arith in
+    through (byte_len w - 1) l (omega arith) ∙ ap little (ap (λ n. take n l) last ∙ take_all (byte_len w) l (omega arith))

@@ -1,14 +1,17 @@
 -- Parts of a list of bytes and stores into it: what is stored is read, and every disjoint part stays. Assumes nothing.
 use mathlib.Core.Path.{◌≡◌, refl, sym, ap, ◌∙◌}
 use mathlib.Core.List.{List, [], ◌∷◌, ◌++◌, append_assoc}
-use Prim.Native.Nat.{ℕ, zero, suc, ◌+◌, ◌-◌, ◌*◌, ◌/◌, ◌%◌, ◌^◌, ◌≤◌, ◌<◌}
+use Prim.Native.Nat.{ℕ, zero, suc, ◌+◌, ◌-◌, ◌^◌, ◌≤◌, ◌<◌}
 use native.Mathlib.Nat.{add-zero, zero-add, add-suc, suc-add, add-sub_of_le}
-use native.Mathlib.Numerals.{add-one}
 use native.Mathlib.Omega.{arith}
-use lib.ListN.{length, take, drop, get_or, set, replicate, length-drop, length-set, length-replicate, replicate-append-replicate, take-append-drop}
-use lib.Seq.{sets, sets-eq, take-add, drop-drop, drop-cons, take_at, drop_at, length-take-le, take-take, drop-set-add, drop-set-lt, take-set-le, take-set-lt, set-set, set_comm, take_all, take-suc, take-append-le, drop-append-le, drop-append-add, get_or-set_other}
+use lib.ListN.{length, take, drop, get_or, set, replicate, length-drop, length-set, length-replicate, take-append-drop}
+use lib.Seq.{sets, sets-eq, take-add, drop-drop, drop-cons, take_at, drop_at, length-take-le, take-take, drop-set-add, drop-set-lt, take-set-le, take-set-lt, set-set, set_comm, take_all, take-append-le, drop-append-le, drop-append-add, get_or-set_other}
+use Rattle.std.specs.Int.{Width, byte_len, from_le_bytes}
+use borrow.Rule.Slice.PartMut.{put_mid}
+use Rattle.std.proofs.lemmas.Slice.{put_mid-paste}
+use Rattle.std.proofs.lemmas.List.Edits.{paste_all}
 use Rattle.little.specs.Little.{little, digits, part}
-use Rattle.little.proofs.Digits.{length_digits, little_digits, little_append, digits_add, digits_low}
+use Rattle.little.proofs.Digits.{length_digits, little_digits, little_std}
 
 -- ---- parts
 
@@ -49,28 +52,19 @@ part_skip x y n k w e = ap (take w) (ap (λ (m : ℕ). drop (m + k) (x ++ y)) (s
 
 -- ---- a number at a place
 
-pub little_part_add : (at a b : ℕ) (s : List ℕ) → at + a ≤ length s → little (part at (a + b) s) ≡ little (part at a s) + 256 ^ a * little (part (at + a) b s)
-little_part_add at a b s h =
-    ap little (part_add at a b s)
-    ∙ little_append (part at a s) (part (at + a) b s)
-    ∙ ap (λ (n : ℕ). little (part at a s) + 256 ^ n * little (part (at + a) b s)) (length_part at a s h)
-
 pub little_byte : (at : ℕ) (s : List ℕ) → at < length s → little (part at 1 s) ≡ get_or s at 0
 unfolding little
 little_byte at s h = ap little (part_byte at s h) ∙ omega arith
+
+-- the number that std makes of a part
+pub little_read : (w : Width) (at : ℕ) (s b : List ℕ) (v : ℕ) → v ≡ from_le_bytes w b → b ≡ part at (byte_len w) s → 0 < byte_len w → at + byte_len w ≤ length s → v ≡ little (part at (byte_len w) s)
+little_read w at s b v is e some h = is ∙ ap (from_le_bytes w) e ∙ little_std w (part at (byte_len w) s) some (length_part at (byte_len w) s h)
 
 -- ---- stores
 
 pub sets_append : (s : List ℕ) (at : ℕ) (x y : List ℕ) → sets s at (x ++ y) ≡ sets (sets s at x) (at + length x) y
 sets_append s at [] y = ap (λ (n : ℕ). sets s n y) (sym (add-zero at))
 sets_append s at (a ∷ x) y = sets_append (set s at a) (suc at) x y ∙ ap (λ (n : ℕ). sets (sets (set s at a) (suc at) x) n y) (omega arith)
-
--- a number is stored as its low and its high part
-pub sets_digits_add : (s : List ℕ) (at a b v : ℕ) → sets s at (digits (a + b) v) ≡ sets (sets s at (digits a (v % 256 ^ a))) (at + a) (digits b (v / 256 ^ a))
-sets_digits_add s at a b v =
-    ap (sets s at) (digits_add a b v ∙ ap (λ (r : List ℕ). r ++ digits b (v / 256 ^ a)) (sym (digits_low a v)))
-    ∙ sets_append s at (digits a (v % 256 ^ a)) (digits b (v / 256 ^ a))
-    ∙ ap (λ (n : ℕ). sets (sets s at (digits a (v % 256 ^ a))) (at + n) (digits b (v / 256 ^ a))) (length_digits a (v % 256 ^ a))
 
 -- what was stored is read
 pub part_sets : (s : List ℕ) (at : ℕ) (vs : List ℕ) → at + length vs ≤ length s → part at (length vs) (sets s at vs) ≡ vs
@@ -100,27 +94,12 @@ pub part_sets_above : (a w : ℕ) (s : List ℕ) (at : ℕ) (vs : List ℕ) → 
 part_sets_above a w s at [] h = refl
 part_sets_above a w s at (v ∷ vs) h = part_sets_above a w (set s at v) (suc at) vs (omega arith) ∙ part_set_above a w at v s (omega arith)
 
--- one more byte of b
-pub sets_take : (s : List ℕ) (at : ℕ) (b : List ℕ) (i : ℕ) → i < length b → set (sets s at (take i b)) (at + i) (get_or b i 0) ≡ sets s at (take (i + 1) b)
-sets_take s at b i h =
-    let more : take (i + 1) b ≡ take i b ++ (get_or b i 0 ∷ []) = rw add-one (take-suc b i 0 h) in
-    ap (λ (n : ℕ). set (sets s at (take i b)) (at + n) (get_or b i 0)) (sym (length-take-le i b (omega arith)))
-    ∙ sym (sets_append s at (take i b) (get_or b i 0 ∷ []))
-    ∙ ap (sets s at) (sym more)
-
 -- a number is read where it was stored
 pub little_sets : (s : List ℕ) (at w v : ℕ) → v < 256 ^ w → at + w ≤ length s → little (part at w (sets s at (digits w v))) ≡ v
 little_sets s at w v h k =
     ap (λ (n : ℕ). little (part at n (sets s at (digits w v)))) (sym (length_digits w v))
     ∙ ap little (part_sets s at (digits w v) (simp length_digits k))
     ∙ little_digits w v h
-
--- one more zero
-pub sets_zero : (s : List ℕ) (at i : ℕ) → set (sets s at (replicate i 0)) (at + i) 0 ≡ sets s at (replicate (i + 1) 0)
-sets_zero s at i =
-    ap (λ (n : ℕ). set (sets s at (replicate i 0)) (at + n) 0) (sym (length-replicate i 0))
-    ∙ sym (sets_append s at (replicate i 0) (0 ∷ []))
-    ∙ ap (sets s at) (replicate-append-replicate i 1 0)
 
 -- ---- a store into a part, and a part stored back
 
@@ -179,6 +158,20 @@ sets_again s at (a ∷ x) (b ∷ y) e =
     (set_sets_below (set s at a) at (suc at) b x (omega arith)
     ∙ ap (λ (l : List ℕ). sets l (suc at) x) (set-set s at a b))
     ∙ sets_again (set s at b) (suc at) x y (omega arith)
+
+-- what is written to the n bytes from index at on, the part that they are
+pub put_part : (at n : ℕ) (s ys vs : List ℕ) → ys ≡ vs → length vs ≡ n → at + n ≤ length s → put_mid at (at + n - at) s ys ≡ sets s at vs
+put_part at n s ys vs e long h =
+    put_mid-paste at (at + n - at) s ys vs n e (omega arith) (sym long)
+    ∙ paste_all s at vs n (sym long)
+    ∙ ap (λ m. take at s ++ (vs ++ drop (at + m) s)) (sym long)
+    ∙ sym (append_assoc (take at s) vs (drop (at + length vs) s))
+    ∙ sym (sets-eq vs s at (omega arith))
+
+pub put_zeros_part : (at n : ℕ) (s ys : List ℕ) → ys ≡ replicate (length (take (at + n - at) (drop at s))) 0 → at + n ≤ length s → put_mid at (at + n - at) s ys ≡ sets s at (replicate n 0)
+put_zeros_part at n s ys e h =
+    let whole : length (take (at + n - at) (drop at s)) ≡ n = length-take-le (at + n - at) (drop at s) (simp length-drop (omega arith)) ∙ omega arith in
+    put_part at n s ys (replicate n 0) (e ∙ ap (λ m. replicate m 0) whole) (length-replicate n 0) h
 
 -- a part stored where it lies
 pub sets_part : (at w : ℕ) (s : List ℕ) → at + w ≤ length s → sets s at (part at w s) ≡ s

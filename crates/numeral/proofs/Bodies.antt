@@ -1,17 +1,18 @@
 -- Laws of bodies as text: each byte is two hex digits, which say it. Assumes nothing.
 use mathlib.Core.Path.{◌≡◌, refl, sym, ap, ap₂, ◌∙◌}
-use mathlib.Core.Bool.{Bool, true, false, ◌&&◌, ◌||◌, and-false}
+use mathlib.Core.Bool.{Bool, true, false, ◌&&◌, cond, and-false}
 use mathlib.Core.List.{List, [], ◌∷◌, ◌++◌, append-nil}
 use Prim.Native.Nat.{ℕ, zero, suc, ◌+◌, ◌-◌, ◌*◌, ◌/◌, ◌%◌, ◌≤◌, ◌<◌}
 use native.Mathlib.Numerals.{add-one}
 use native.Mathlib.Omega.{arith}
-use lib.ListN.{length, get_or, drop, set, replicate, length-set, drop_of_length-le}
-use lib.Seq.{sets, sets-eq, drop-cons}
-use lib.Dec.{eqb, leb, ltb}
+use lib.ListN.{length, get_or, take, drop, set, replicate, length-set, drop_of_length-le}
+use lib.Seq.{sets, sets-eq, drop-cons, drop-drop}
+use lib.Dec.{eqb, ltb}
 use borrow.Author.Tests.{ltb-true, ltb-false, lt-ltb, le-ltb, le-leb, lt-leb, eq-eqb, ne_eqb}
+use Rattle.std.specs.Prelude.{Option, Some, None}
+use Rattle.std.specs.Simd.{first_chunks}
 use Rattle.little.specs.Little.{Bytes}
-use Rattle.numeral.specs.Numeral.{nibble_of, hex_alone, is_body, pairs, body_in, glyph_of, hex_of}
-use Rattle.numeral.proofs.Tests.{or_left, or_right, within_low, within_high}
+use Rattle.numeral.specs.Numeral.{nibble_of, hex_alone, is_body, pairs, body_in, byte_in, body_said, glyph_of, hex_of}
 
 -- ---- a digit
 
@@ -46,20 +47,6 @@ nibble_of_glyph_of n h = by (ltb n 10) refl
     by false e =
         let l : 10 ≤ n = ltb-false n 10 e in
         ap nibble_of (glyph_of_high n l) ∙ nibble_of_letter (87 + n) (omega arith) (omega arith) ∙ omega arith
-
--- as the program tests it
-module _ (b : ℕ) where
-  pub nibble_digit : (leb 48 b && leb b 57) ≡ true → (b - 48 ≡ nibble_of b) × (b - 48 ≤ 16)
-  unfolding nibble_of
-  nibble_digit t = (rw t, omega (arith, within_high 48 b 57 t))
-
-  pub nibble_letter : (leb 48 b && leb b 57) ≡ false → (leb 97 b && leb b 102) ≡ true → (b - 97 + 10 ≡ nibble_of b) × (b - 97 + 10 ≤ 16)
-  unfolding nibble_of
-  nibble_letter s t = (rw (s, t) (omega (arith, within_low 97 b 102 t)), omega (arith, within_high 97 b 102 t))
-
-  pub nibble_none : (leb 48 b && leb b 57) ≡ false → (leb 97 b && leb b 102) ≡ false → (16 ≡ nibble_of b) × (16 ≤ 16)
-  unfolding nibble_of
-  nibble_none s t = (rw (s, t), omega arith)
 
 -- ---- hex_of
 
@@ -109,10 +96,17 @@ sets_hex_of_end s at body i h = ap (λ (r : List ℕ). sets s at (hex_of r)) (dr
 
 -- ---- a body read byte by byte
 
+-- the two digits of byte i
+two_at : (n : ℕ) (s : List ℕ) (i : ℕ) → i < n → get_or (first_chunks 2 n s) i [] ≡ take 2 (drop (2 * i) s)
+two_at zero s i h = absurd (omega arith)
+two_at (suc n) s zero h = refl
+two_at (suc n) s (suc i) h = two_at n (drop 2 s) i (omega arith) ∙ ap (take 2) (drop-drop (2 * i) 2 s ∙ ap (λ (k : ℕ). drop k s) (omega arith))
+
 -- what is known where the bytes before place i are read: the digits from there on say the rest
-pub record Reading (s : List ℕ) (i : ℕ) (bytes : List ℕ) : Type 0 where
-  pub within : i ≤ 32
+pub record Reading (s : List ℕ) (digits : List (List ℕ)) (i : ℕ) (bytes : List ℕ) : Type 0 where
   pub long : length s ≡ 64
+  pub count : length digits ≡ 32
+  pub cut : (k : ℕ) → k < 32 → get_or digits k [] ≡ take 2 (drop (2 * k) s)
   pub room : length bytes ≡ 32
   pub alone : hex_alone (drop (2 * i) s) ≡ hex_alone s
   pub rest : sets bytes i (pairs (drop (2 * i) s)) ≡ pairs s
@@ -130,58 +124,85 @@ sets_all : (l x : List ℕ) → length x ≡ length l → sets l 0 x ≡ x
 sets_all l x e =
     sets-eq x l 0 (omega arith) ∙ ap (λ (r : List ℕ). x ++ r) (drop_of_length-le l {i = 0 + length x} (omega arith)) ∙ append-nil x
 
-pub reading_start : (s : List ℕ) → length s ≡ 64 → Reading s 0 (replicate 32 0)
-reading_start s e =
-    record { within = omega arith; long = e; room = refl; alone = refl; rest = sets_all (replicate 32 0) (pairs s) (length_pairs 32 s e) }
+pub reading_start : (s : List ℕ) (digits : List (List ℕ)) → length s ≡ 64
+    → digits ≡ first_chunks 2 (length s / 2) s → length digits ≡ length s / 2 → Reading s digits 0 (replicate 32 0)
+reading_start s digits e cut count =
+    let half : length s / 2 ≡ 32 = omega arith in
+    record {
+      long = e;
+      count = count ∙ half;
+      cut = λ k h. ap (λ (d : List (List ℕ)). get_or d k []) cut ∙ two_at (length s / 2) s k (omega arith);
+      room = refl;
+      alone = refl;
+      rest = sets_all (replicate 32 0) (pairs s) (length_pairs 32 s e);
+    }
 
--- two digits
-pub both_small : (h l : ℕ) → (ltb 15 h || ltb 15 l) ≡ false → (h ≤ 15) × (l ≤ 15)
-both_small h l e = (ltb-false 15 h (or_left (ltb 15 h) (ltb 15 l) e), ltb-false 15 l (or_right (ltb 15 h) (ltb 15 l) e))
+same_some : {m n : ℕ} → Some m ≡ Some n → m ≡ n
+same_some e = cc
 
-module _ (s : List ℕ) (i : ℕ) (bytes : List ℕ) {h l : ℕ} (r : Reading s i bytes) (inside : i < 32)
-    (high : h ≡ nibble_of (get_or s (2 * i) 0)) (low : l ≡ nibble_of (get_or s (2 * i + 1) 0)) where
+module _ (s : List ℕ) (digits : List (List ℕ)) (i : ℕ) (bytes : List ℕ) (r : Reading s digits i bytes) (inside : i < length digits) where
+  abbrev high : ℕ
+  high = nibble_of (get_or s (2 * i) 0)
+
+  abbrev low : ℕ
+  low = nibble_of (get_or s (2 * i + 1) 0)
+
   two : drop (2 * i) s ≡ get_or s (2 * i) 0 ∷ get_or s (2 * i + 1) 0 ∷ drop (2 * (i + 1)) s
   two =
       let behind : 2 * i + 1 + 1 ≡ 2 * (i + 1) = omega arith in
-      drop_next s (2 * i) (omega (arith, r.long))
+      drop_next s (2 * i) (omega (arith, r.long, r.count))
       ∙ ap (λ (d : List ℕ). get_or s (2 * i) 0 ∷ d)
-      (drop_next s (2 * i + 1) (omega (arith, r.long)) ∙ ap (λ (n : ℕ). get_or s (2 * i + 1) 0 ∷ drop n s) behind)
+      (drop_next s (2 * i + 1) (omega (arith, r.long, r.count)) ∙ ap (λ (n : ℕ). get_or s (2 * i + 1) 0 ∷ drop n s) behind)
 
-  hex_alone_two : hex_alone s ≡ (ltb h 16 && (ltb l 16 && hex_alone (drop (2 * (i + 1)) s)))
+  abbrev said : Option ℕ
+  said = byte_in (get_or (get_or digits i []) 0 0) (get_or (get_or digits i []) 1 0)
+
+  said_is : said ≡ cond (ltb high 16 && ltb low 16) (Some (high * 16 + low)) None
+  said_is = ap (λ (d : List ℕ). byte_in (get_or d 0 0) (get_or d 1 0)) (r.cut i (omega (arith, r.count)) ∙ ap (take 2) two)
+
+  alone_two : hex_alone s ≡ (ltb high 16 && (ltb low 16 && hex_alone (drop (2 * (i + 1)) s)))
   unfolding hex_alone
-  hex_alone_two =
-      sym r.alone ∙ ap hex_alone two
-      ∙ sym (ap₂ (λ (h l : ℕ). ltb h 16 && (ltb l 16 && hex_alone (drop (2 * (i + 1)) s))) high low)
+  alone_two = sym r.alone ∙ ap hex_alone two
 
-  pub reading_next : (ltb 15 h || ltb 15 l) ≡ false → Reading s (i + 1) (set bytes i (h * 16 + l))
+  pub reading_none : None ≡ said → None ≡ body_said s
+  unfolding is_body
+  reading_none e = by (ltb high 16) refl (ltb low 16) refl (e ∙ said_is)
+    where
+      none : hex_alone s ≡ false → None ≡ body_said s
+      none f = rw (f, and-false (eqb (length s) 64))
+
+      by : (t : Bool) → ltb high 16 ≡ t → (u : Bool) → ltb low 16 ≡ u → None ≡ cond (t && u) (Some (high * 16 + low)) None → None ≡ body_said s
+      by true p true q f = cc
+      by true p false q f = none (alone_two ∙ rw (p, q))
+      by false p u q f = none (alone_two ∙ rw p)
+
+  pub reading_next : {n : ℕ} → Some n ≡ said → Reading s digits (i + 1) (set bytes i n)
   unfolding pairs
-  reading_next e =
-      record {
-        within = omega arith;
+  reading_next {n} e = by (ltb high 16) refl (ltb low 16) refl (e ∙ said_is)
+    where
+      by : (t : Bool) → ltb high 16 ≡ t → (u : Bool) → ltb low 16 ≡ u → Some n ≡ cond (t && u) (Some (high * 16 + low)) None
+          → Reading s digits (i + 1) (set bytes i n)
+      by true p true q f = record {
         long = r.long;
+        count = r.count;
+        cut = r.cut;
         room = simp length-set r.room;
-        alone = sym (rw (lt-ltb h 16 (omega (arith, both_small h l e)), lt-ltb l 16 (omega (arith, both_small h l e))) at hex_alone_two);
+        alone = sym (alone_two ∙ rw (p, q));
         rest =
-            ap (λ (n : ℕ). sets (set bytes i (h * 16 + l)) n (pairs (drop (2 * (i + 1)) s))) (add-one i)
-            ∙ ap₂ (λ (h l : ℕ). sets bytes i ((h * 16 + l) ∷ pairs (drop (2 * (i + 1)) s))) high low
+            ap (λ (k : ℕ). sets (set bytes i n) k (pairs (drop (2 * (i + 1)) s))) (add-one i)
+            ∙ ap (λ (b : ℕ). sets bytes i (b ∷ pairs (drop (2 * (i + 1)) s))) (same_some f)
             ∙ ap (λ (d : List ℕ). sets bytes i (pairs d)) (sym two)
             ∙ r.rest;
       }
+      by true p false q f = cc
+      by false p u q f = cc
 
-  pub reading_none : (ltb 15 h || ltb 15 l) ≡ true → is_body s ≡ false
-  unfolding is_body
-  reading_none e = ap (λ (t : Bool). eqb (length s) 64 && t) (hex_alone_two ∙ by (ltb 15 h) refl e) ∙ and-false (eqb (length s) 64)
-    where
-      by : (t : Bool) → ltb 15 h ≡ t → t || ltb 15 l ≡ true → ltb h 16 && (ltb l 16 && hex_alone (drop (2 * (i + 1)) s)) ≡ false
-      by true f e = rw (le-ltb h 16 (omega (arith, ltb-true 15 h f)))
-      by false f e = rw (le-ltb l 16 (omega (arith, ltb-true 15 l e)), and-false (ltb h 16))
-
-pub reading_end : (s : List ℕ) (i : ℕ) (bytes : List ℕ) → Reading s i bytes → 32 ≤ i → (true ≡ is_body s) × (bytes ≡ body_in s)
+pub reading_end : (s : List ℕ) (digits : List (List ℕ)) (i : ℕ) (bytes : List ℕ) → Reading s digits i bytes → length digits ≤ i → Some bytes ≡ body_said s
 unfolding is_body body_in hex_alone pairs
-reading_end s i bytes r h = (sym (rw (good, alone)), rw (good, alone) (ap (λ (d : List ℕ). sets bytes i (pairs d)) (sym none) ∙ r.rest))
+reading_end s digits i bytes r h = rw (good, alone) (ap (λ (d : List ℕ). Some (sets bytes i (pairs d))) (sym none) ∙ ap Some r.rest)
   where
     none : drop (2 * i) s ≡ []
-    none = drop_of_length-le s {i = 2 * i} (omega (arith, r.long))
+    none = drop_of_length-le s {i = 2 * i} (omega (arith, r.long, r.count))
 
     alone : hex_alone s ≡ true
     alone = sym r.alone ∙ ap hex_alone none
@@ -189,13 +210,6 @@ reading_end s i bytes r h = (sym (rw (good, alone)), rw (good, alone) (ap (λ (d
     good : eqb (length s) 64 ≡ true
     good = eq-eqb (length s) 64 r.long
 
-pub is_body_length : (s : List ℕ) → (length s ≡ 64 → ⊥) → is_body s ≡ false
+pub short_none : (s : List ℕ) → (length s ≡ 64 → ⊥) → None ≡ body_said s
 unfolding is_body
-is_body_length s h = rw (ne_eqb (length s) 64 h)
-
--- no body is read as zeros
-pub none_read : {good : Bool} {bytes : List ℕ} (s : List ℕ) → is_body s ≡ false
-    → (good ≡ false) × (bytes ≡ replicate 32 0)
-    → (good ≡ is_body s) × (bytes ≡ body_in s)
-unfolding body_in
-none_read s e (f, g) = (f ∙ sym e, rw e g)
+short_none s h = rw (ne_eqb (length s) 64 h)

@@ -9,10 +9,10 @@ use lib.ListN.{length, get_or}
 use lib.Dec.{eqb, leb, ltb}
 use borrow.Author.Tests.{ltb-true, leb-true, lt-ltb, eq-eqb, ne_eqb}
 use Rattle.little.specs.Little.{Bytes}
-use Rattle.numeral.specs.declared.Number.TheVariants.{Is}
+use Rattle.std.specs.Prelude.{Some}
 use Rattle.numeral.specs.Numeral.{digits_alone, said_from, number_in, spelled, numeral_of, nibble_of, hex_alone, is_body, body_in, hex_of}
 use Rattle.lines.specs.Span.{lacks}
-use Rattle.numeral.proofs.Tests.{and_left, and_right}
+use Rattle.std.proofs.lemmas.Bool.{and_parts}
 use Rattle.numeral.proofs.Numbers.{number_from, number_from_start, length_spelled, digits_alone_spelled, said_from_spelled, spelled_leads, spelled_long}
 use Rattle.numeral.proofs.Bodies.{nibble_of_below, length_hex_of, hex_alone_hex_of, pairs_hex_of}
 
@@ -29,12 +29,12 @@ numeral_digits v h = digits_alone_spelled 19 v
 
 -- digits that say a number, with no zero in front, are that number
 pub number_said : (s : List ℕ) (v : ℕ) → v < 2 ^ 64 → 1 ≤ length s → (2 ≤ length s → get_or s 0 0 ≡ 48 → ⊥)
-    → digits_alone s ≡ true → said_from 0 s ≡ v → number_in s ≡ Is v
+    → digits_alone s ≡ true → said_from 0 s ≡ v → number_in s ≡ Some v
 unfolding number_from
 number_said s v h l f d e = sym (number_from_start s l f) ∙ rw (d, e, lt-ltb v (2 ^ 64) h)
 
 -- a number written is read back
-pub number_back : (v : ℕ) → v < 2 ^ 64 → number_in (numeral_of v) ≡ Is v
+pub number_back : (v : ℕ) → v < 2 ^ 64 → number_in (numeral_of v) ≡ Some v
 unfolding numeral_of
 number_back v h =
     number_said (spelled 19 v) v h (length_spelled 19 v).0
@@ -70,15 +70,15 @@ pub digits_no : (b : ℕ) (s : List ℕ) → b < 48 → digits_alone s ≡ true 
 unfolding digits_alone lacks
 digits_no b [] h e = refl
 digits_no b (x ∷ s) h e =
-    let digit : 48 ≤ x = leb-true 48 x (and_left (leb 48 x) (leb x 57) (and_left (leb 48 x && leb x 57) (digits_alone s) e)) in
-    rw (ne_eqb x b (λ z. omega arith)) (digits_no b s h (and_right (leb 48 x && leb x 57) (digits_alone s) e))
+    let digit : 48 ≤ x = leb-true 48 x (and_parts (leb 48 x) (leb x 57) (and_parts (leb 48 x && leb x 57) (digits_alone s) e).0).0 in
+    rw (ne_eqb x b (λ z. omega arith)) (digits_no b s h (and_parts (leb 48 x && leb x 57) (digits_alone s) e).1)
 
 pub hex_no : (b : ℕ) (s : List ℕ) → b < 48 → hex_alone s ≡ true → lacks b s ≡ true
 unfolding hex_alone lacks
 hex_no b [] h e = refl
 hex_no b (x ∷ s) h e =
-    let digit : nibble_of x < 16 = ltb-true (nibble_of x) 16 (and_left (ltb (nibble_of x) 16) (hex_alone s) e) in
-    rw (ne_eqb x b (λ z. omega (arith, ap nibble_of z ∙ nibble_of_below b h))) (hex_no b s h (and_right (ltb (nibble_of x) 16) (hex_alone s) e))
+    let digit : nibble_of x < 16 = ltb-true (nibble_of x) 16 (and_parts (ltb (nibble_of x) 16) (hex_alone s) e).0 in
+    rw (ne_eqb x b (λ z. omega (arith, ap nibble_of z ∙ nibble_of_below b h))) (hex_no b s h (and_parts (ltb (nibble_of x) 16) (hex_alone s) e).1)
 
 pub numeral_no_tab : (v : ℕ) → lacks 9 (numeral_of v) ≡ true
 unfolding numeral_of

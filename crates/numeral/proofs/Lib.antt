@@ -1,4 +1,3 @@
-pub mod Tests
 pub mod Numbers
 pub mod Bodies
 pub mod Laws

@@ -1,21 +1,19 @@
 -- Laws of numbers as text: what digits say grows with each, a number is read digit by digit, and written it is its last digits, of which
 -- there are at most 20. Assumes nothing.
 use mathlib.Core.Path.{◌≡◌, refl, sym, ap, ap₂, ◌∙◌}
-use mathlib.Core.Bool.{Bool, true, false, ◌&&◌, ◌||◌, cond, and-false}
+use mathlib.Core.Bool.{Bool, true, false, ◌&&◌, cond, and-false, and-true, and_assoc}
 use mathlib.Core.List.{List, [], ◌∷◌, ◌++◌}
 use Prim.Native.Nat.{ℕ, zero, suc, ◌+◌, ◌-◌, ◌*◌, ◌/◌, ◌%◌, ◌^◌, ◌≤◌, ◌<◌}
-use native.Mathlib.Nat.{pow-suc, div-lt_iff_lt-mul}
+use native.Mathlib.Nat.{pow-suc, one-le-pow, div-lt_iff_lt-mul}
 use native.Mathlib.Numerals.{add-one}
 use native.Mathlib.Omega.{arith}
 use lib.ListN.{length, get_or, drop, set, drop_of_length-le, length-append}
 use lib.Seq.{sets, drop-cons, set_comm}
-use lib.Dec.{eqb, leb, ltb}
-use borrow.Author.Tests.{eqb-true, eqb-false, ltb-true, ltb-false, lt-ltb, le-ltb, le-leb, lt-leb, eq-eqb, ne_eqb}
+use lib.Dec.{leb, ltb}
+use borrow.Author.Tests.{ltb-true, ltb-false, lt-ltb, le-ltb, le-leb, ne_eqb}
 use Rattle.little.proofs.Parts.{sets_append}
-use Rattle.numeral.specs.declared.Number.{Number}
-use Rattle.numeral.specs.declared.Number.TheVariants.{Is, Not}
-use Rattle.numeral.specs.Numeral.{digits_alone, said_from, number_in, spelled, numeral_of}
-use Rattle.numeral.proofs.Tests.{and_between, and_left, and_right, and_assoc, or_left, or_right}
+use Rattle.std.specs.Prelude.{Option, Some, None}
+use Rattle.numeral.specs.Numeral.{digits_alone, with_digit, said_from, begins, number_in, spelled, numeral_of}
 
 -- ---- said_from
 
@@ -36,7 +34,7 @@ unfolding digits_alone
 digits_alone_append [] y = refl
 digits_alone_append (b ∷ x) y =
     ap (λ (t : Bool). leb 48 b && leb b 57 && t) (digits_alone_append x y)
-    ∙ and_assoc (leb 48 b) (leb b 57) (digits_alone x) (digits_alone y)
+    ∙ sym (and_assoc (leb 48 b && leb b 57) (digits_alone x) (digits_alone y))
 
 pub digits_alone_one : (b : ℕ) → 48 ≤ b → b ≤ 57 → digits_alone (b ∷ []) ≡ true
 unfolding digits_alone
@@ -45,26 +43,14 @@ digits_alone_one b l h = rw (le-leb 48 b l, le-leb b 57 h)
 -- ---- a number, read from digit i on
 
 -- the number that a field says, behind digits that said v
-unfoldable pub number_from : ℕ → List ℕ → Number
-number_from v s = cond (digits_alone s && ltb (said_from v s) (2 ^ 64)) (Is (said_from v s)) Not
+unfoldable pub number_from : ℕ → List ℕ → Option ℕ
+number_from v s = cond (digits_alone s && ltb (said_from v s) (2 ^ 64)) (Some (said_from v s)) None
 
-pub number_from_end : (v : ℕ) → v < 2 ^ 64 → number_from v [] ≡ Is v
+pub number_from_end : (v : ℕ) → v < 2 ^ 64 → number_from v [] ≡ Some v
 unfolding number_from digits_alone said_from
 number_from_end v h = rw (lt-ltb v (2 ^ 64) h)
 
-pub number_from_digit : (v b : ℕ) (bs : List ℕ) → 48 ≤ b → b ≤ 57 → number_from v (b ∷ bs) ≡ number_from (v * 10 + (b - 48)) bs
-unfolding number_from digits_alone said_from
-number_from_digit v b bs l h = rw (le-leb 48 b l, le-leb b 57 h)
-
-pub number_from_below : (v b : ℕ) (bs : List ℕ) → b < 48 → number_from v (b ∷ bs) ≡ Not
-unfolding number_from digits_alone said_from
-number_from_below v b bs h = rw (lt-leb 48 b h)
-
-pub number_from_above : (v b : ℕ) (bs : List ℕ) → 57 < b → number_from v (b ∷ bs) ≡ Not
-unfolding number_from digits_alone said_from
-number_from_above v b bs h = rw (le-leb 48 b (omega arith), lt-leb b 57 h)
-
-pub number_from_large : (v b : ℕ) (bs : List ℕ) → 2 ^ 64 ≤ v * 10 + (b - 48) → number_from v (b ∷ bs) ≡ Not
+pub number_from_large : (v b : ℕ) (bs : List ℕ) → 2 ^ 64 ≤ v * 10 + (b - 48) → number_from v (b ∷ bs) ≡ None
 unfolding number_from said_from
 number_from_large v b bs h =
     rw (le-ltb (said_from (v * 10 + (b - 48)) bs) (2 ^ 64) (omega (arith, said_from_grows (v * 10 + (b - 48)) bs)), and-false (digits_alone (b ∷ bs)))
@@ -73,85 +59,61 @@ number_from_large v b bs h =
 pub number_from_start : (s : List ℕ) → 1 ≤ length s → (2 ≤ length s → get_or s 0 0 ≡ 48 → ⊥) → number_from 0 s ≡ number_in s
 unfolding number_from number_in
 number_from_start [] h f = absurd (omega arith)
-number_from_start (b ∷ []) h f = rw and_between
-number_from_start (b ∷ c ∷ s) h f = rw (ne_eqb b 48 (f (omega arith)), and_between)
+number_from_start (b ∷ []) h f = rw and-true
+number_from_start (b ∷ c ∷ s) h f = rw (ne_eqb b 48 (f (omega arith)), and-true)
 
--- ---- as the program tests them
+-- ---- as the program reads it
 
-pub number_in_empty : (s : List ℕ) → length s ≡ 0 → number_in s ≡ Not
+-- where a field begins as no number does, and where it does
+pub number_begun : (s : List ℕ) → begins s ≡ false → number_in s ≡ None
 unfolding number_in
-number_in_empty [] e = refl
-number_in_empty (b ∷ s) e = absurd (omega arith)
+number_begun [] e = refl
+number_begun (b ∷ s) e = rw (e, and-false (digits_alone (b ∷ s)))
 
--- a zero in front
-pub number_in_zero : (s : List ℕ) → (eqb (get_or s 0 0) 48 && ltb 1 (length s)) ≡ true → number_in s ≡ Not
-unfolding number_in
-number_in_zero [] e = refl
-number_in_zero (b ∷ []) e = absurd (omega (arith, ltb-true 1 1 (and_right (eqb b 48) (ltb 1 1) e)))
-number_in_zero (b ∷ c ∷ s) e = rw (and_left (eqb b 48) (ltb 1 (length (b ∷ c ∷ s))) e, and-false (digits_alone (b ∷ c ∷ s)))
+pub number_begins : (s : List ℕ) → begins s ≡ true → number_from 0 s ≡ number_in s
+unfolding number_in number_from
+number_begins [] e = cc
+number_begins (b ∷ s) e = rw (e, and-true)
 
--- none in front
-pub number_in_other : (s : List ℕ) → 1 ≤ length s → (eqb (get_or s 0 0) 48 && ltb 1 (length s)) ≡ false → number_from 0 s ≡ number_in s
-number_in_other s h e =
-    number_from_start s h
-    (λ long zero. let no : true ≡ false = rw (eq-eqb (get_or s 0 0) 48 zero, lt-ltb 1 (length s) long) at e in
-    let z : ◌≡◌ {A = ℕ} 0 1 = cc in omega arith)
+-- byte b, behind digits that said v: there is no number, or it goes on from what the digit makes of v
+module _ (v b : ℕ) (bs : List ℕ) where
+  by_byte : (P : Option ℕ → Type 0)
+      → (number_from v (b ∷ bs) ≡ None → P None)
+      → (v * 10 + (b - 48) < 2 ^ 64 → number_from v (b ∷ bs) ≡ number_from (v * 10 + (b - 48)) bs → P (Some (v * 10 + (b - 48))))
+      → P (with_digit v b)
+  unfolding number_from digits_alone said_from
+  by_byte P none some = by (leb 48 b && leb b 57) refl (ltb (v * 10 + (b - 48)) (2 ^ 64)) refl
+    where
+      by : (t : Bool) → (leb 48 b && leb b 57) ≡ t → (u : Bool) → ltb (v * 10 + (b - 48)) (2 ^ 64) ≡ u
+          → P (cond (t && u) (Some (v * 10 + (b - 48))) None)
+      by false p u q = none (rw p)
+      by true p true q = some (ltb-true (v * 10 + (b - 48)) (2 ^ 64) q) (rw p)
+      by true p false q = none (number_from_large v b bs (ltb-false (v * 10 + (b - 48)) (2 ^ 64) q))
 
--- byte i of a field, behind digits that said v
+same_some : {m n : ℕ} → Some m ≡ Some n → m ≡ n
+same_some e = cc
+
+-- and byte i of a field
 module _ (s : List ℕ) (i v : ℕ) (inside : i < length s) where
   split : drop i s ≡ get_or s i 0 ∷ drop (i + 1) s
   split = rw add-one (drop-cons s i 0 inside)
 
-  pub read_other : (ltb (get_or s i 0) 48 || ltb 57 (get_or s i 0)) ≡ true → number_from v (drop i s) ≡ Not
-  read_other e = ap (number_from v) split ∙ by (ltb (get_or s i 0) 48) refl e
-    where
-      by : (t : Bool) → ltb (get_or s i 0) 48 ≡ t → t || ltb 57 (get_or s i 0) ≡ true → number_from v (get_or s i 0 ∷ drop (i + 1) s) ≡ Not
-      by true f e = number_from_below v (get_or s i 0) (drop (i + 1) s) (ltb-true (get_or s i 0) 48 f)
-      by false f e = number_from_above v (get_or s i 0) (drop (i + 1) s) (ltb-true 57 (get_or s i 0) e)
+  pub read_none : None ≡ with_digit v (get_or s i 0) → number_from v (drop i s) ≡ None
+  read_none e =
+      ap (number_from v) split
+      ∙ by_byte v (get_or s i 0) (drop (i + 1) s) (λ o. None ≡ o → number_from v (get_or s i 0 ∷ drop (i + 1) s) ≡ None) (λ q _. q) (λ _ _ f. cc) e
 
-  pub read_large : 2 ^ 64 ≤ v * 10 + (get_or s i 0 - 48) → number_from v (drop i s) ≡ Not
-  read_large h = ap (number_from v) split ∙ number_from_large v (get_or s i 0) (drop (i + 1) s) h
+  pub read_digit : {w : ℕ} → Some w ≡ with_digit v (get_or s i 0) → (w < 2 ^ 64) × (number_from w (drop (i + 1) s) ≡ number_from v (drop i s))
+  read_digit {w} e =
+      let more = by_byte v (get_or s i 0) (drop (i + 1) s)
+      (λ o. Some w ≡ o → (w < 2 ^ 64) × (number_from w (drop (i + 1) s) ≡ number_from v (get_or s i 0 ∷ drop (i + 1) s)))
+      (λ _ f. cc)
+      (λ fits q f. (omega (arith, same_some f), ap (λ (n : ℕ). number_from n (drop (i + 1) s)) (same_some f) ∙ sym q))
+      e in
+      (more.0, more.1 ∙ sym (ap (number_from v) split))
 
-  pub read_digit : 48 ≤ get_or s i 0 → get_or s i 0 ≤ 57 → number_from (v * 10 + (get_or s i 0 - 48)) (drop (i + 1) s) ≡ number_from v (drop i s)
-  read_digit l h = sym (ap (number_from v) split ∙ number_from_digit v (get_or s i 0) (drop (i + 1) s) l h)
-
-pub read_end : (s : List ℕ) (i v : ℕ) → length s ≤ i → v < 2 ^ 64 → number_from v (drop i s) ≡ Is v
+pub read_end : (s : List ℕ) (i v : ℕ) → length s ≤ i → v < 2 ^ 64 → number_from v (drop i s) ≡ Some v
 read_end s i v h l = ap (number_from v) (drop_of_length-le s h) ∙ number_from_end v l
-
--- a byte that is a digit
-module _ (b : ℕ) (digit : (ltb b 48 || ltb 57 b) ≡ false) where
-  pub digit_low : 48 ≤ b
-  digit_low = ltb-false b 48 (or_left (ltb b 48) (ltb 57 b) digit)
-
-  pub digit_high : b ≤ 57
-  digit_high = ltb-false 57 b (or_right (ltb b 48) (ltb 57 b) digit)
-
--- what may stand before the last digit of 2^64 - 1
-abbrev tenth : ℕ
-tenth = 1844674407370955161
-
--- one digit more is too large, and not
-pub too_large : (v d : ℕ) → (ltb tenth v || (eqb v tenth && ltb 5 d)) ≡ true → 2 ^ 64 ≤ v * 10 + d
-too_large v d e = by (ltb tenth v) refl e
-  where
-    by : (t : Bool) → ltb tenth v ≡ t → t || (eqb v tenth && ltb 5 d) ≡ true → 2 ^ 64 ≤ v * 10 + d
-    by true f e = omega (arith, ltb-true tenth v f)
-    by false f e =
-        omega (
-          arith,
-          eqb-true v tenth (and_left (eqb v tenth) (ltb 5 d) e),
-          ltb-true 5 d (and_right (eqb v tenth) (ltb 5 d) e),
-        )
-
-pub not_large : (v b : ℕ) → (ltb b 48 || ltb 57 b) ≡ false → (ltb tenth v || (eqb v tenth && ltb 5 (b - 48))) ≡ false → v * 10 + (b - 48) < 2 ^ 64
-not_large v b digit e = by (eqb v tenth) refl (or_right (ltb tenth v) (eqb v tenth && ltb 5 (b - 48)) e)
-  where
-    most : v ≤ tenth
-    most = ltb-false tenth v (or_left (ltb tenth v) (eqb v tenth && ltb 5 (b - 48)) e)
-
-    by : (t : Bool) → eqb v tenth ≡ t → t && ltb 5 (b - 48) ≡ false → v * 10 + (b - 48) < 2 ^ 64
-    by true f e = omega (arith, most, ltb-false 5 (b - 48) e)
-    by false f e = omega (arith, most, digit_high b digit, eqb-false v tenth f)
 
 -- ---- spelled
 
@@ -237,34 +199,23 @@ spelled_leads =
     lead [] b f e = f refl
     lead (a ∷ s) b f e = f e
 
--- ---- how many digits, counted
+-- ---- how many digits, by the powers of ten that a number lies between
 
--- what is known where n are counted, and those of `rest` without its last are yet to be
-pub record Counting (v n rest : ℕ) : Type 0 where
-  pub fuel : ℕ
-  pub most : n + fuel ≡ 20
-  pub below : rest < 10 ^ suc fuel
-  pub count : n + length (spelled fuel rest) ≡ suc (length (numeral_of v))
+length_spelled_at : (fuel k v : ℕ) → k ≤ fuel → 10 ^ k ≤ v → v < 10 * 10 ^ k → length (spelled fuel v) ≡ k + 1
+length_spelled_at fuel zero v f l h = length_spelled_one fuel v (omega arith)
+length_spelled_at zero (suc k) v f l h = absurd (omega arith)
+length_spelled_at (suc fuel) (suc k) v f l h =
+    let power = pow-suc 10 k in
+    length_spelled_more fuel v (omega (arith, one-le-pow k 10 (omega arith)))
+    ∙ omega (arith, length_spelled_at fuel k (v / 10) (omega arith) (omega arith) (omega arith))
 
-pub counting_start : (v : ℕ) → v < 2 ^ 64 → Counting v 1 v
+pub numeral_long : (k v : ℕ) → k < 20 → 10 ^ k ≤ v → v < 10 * 10 ^ k → length (numeral_of v) ≡ k + 1
 unfolding numeral_of
-counting_start v h = record { fuel = 19; most = refl; below = omega arith; count = omega arith }
+numeral_long k v f l h = length_spelled_at 19 k v (omega arith) l h
 
-pub counting_next : (v n rest : ℕ) → Counting v n rest → 9 < rest → Counting v (n + 1) (rest / 10)
-counting_next v n rest c h = by c.fuel c.most c.below c.count
-  where
-    by : (fuel : ℕ) → n + fuel ≡ 20 → rest < 10 ^ suc fuel → n + length (spelled fuel rest) ≡ suc (length (numeral_of v)) → Counting v (n + 1) (rest / 10)
-    by zero m b k = absurd (omega arith)
-    by (suc fuel) m b k =
-        record {
-          fuel = fuel;
-          most = omega arith;
-          below = tenth_below fuel rest b;
-          count = omega (arith, length_spelled_more fuel rest h);
-        }
-
-pub counting_end : (v n rest : ℕ) → Counting v n rest → rest ≤ 9 → (n ≡ length (numeral_of v)) × (n ≤ 20)
-counting_end v n rest c h = (omega (arith, length_spelled_one c.fuel rest (omega arith)), omega arith)
+pub numeral_zero : (v : ℕ) → v ≡ 0 → length (numeral_of v) ≡ 1
+unfolding numeral_of
+numeral_zero v e = length_spelled_one 19 v (omega arith)
 
 -- ---- digits, stored from the last on
 

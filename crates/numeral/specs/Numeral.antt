@@ -1,7 +1,5 @@
 -- Numbers and bodies as text ("01, The script and one whole run"). Assumes nothing.
-use Rattle.std.specs.Prelude.{ℕ, zero, suc, ◌+◌, ◌-◌, ◌*◌, ◌/◌, ◌%◌, ◌^◌, Bool, true, not, ◌&&◌, cond, List, [], ◌∷◌, ◌++◌, length, replicate, eqb, leb, ltb}
-use Rattle.numeral.specs.declared.Number.{Number}
-use Rattle.numeral.specs.declared.Number.TheVariants.{Is, Not}
+use Rattle.std.specs.Prelude.{ℕ, zero, suc, ◌+◌, ◌-◌, ◌*◌, ◌/◌, ◌%◌, ◌^◌, Bool, true, false, not, ◌&&◌, cond, Option, Some, None, List, [], ◌∷◌, ◌++◌, length, replicate, eqb, leb, ltb}
 
 -- ---- numbers
 
@@ -9,6 +7,10 @@ use Rattle.numeral.specs.declared.Number.TheVariants.{Is, Not}
 unfoldable pub digits_alone : List ℕ → Bool
 digits_alone [] = true
 digits_alone (b ∷ bs) = leb 48 b && leb b 57 && digits_alone bs
+
+-- what a number says with a digit behind it; none where the byte is no digit, or the number then above 2^64 − 1
+abbrev pub with_digit : ℕ → ℕ → Option ℕ
+with_digit v b = cond (leb 48 b && leb b 57 && ltb (v * 10 + (b - 48)) (2 ^ 64)) (Some (v * 10 + (b - 48))) None
 
 -- what digits say, behind what those before them said
 unfoldable pub said_from : ℕ → List ℕ → ℕ
@@ -20,11 +22,15 @@ abbrev pub leads : ℕ → List ℕ → Bool
 leads b [] = true
 leads b (c ∷ cs) = not (eqb b 48)
 
+abbrev pub begins : List ℕ → Bool
+begins [] = false
+begins (b ∷ bs) = leads b bs
+
 -- a field that is a number; "a number above 2^64 − 1" is ill-formed
-unfoldable pub number_in : List ℕ → Number
-number_in [] = Not
+unfoldable pub number_in : List ℕ → Option ℕ
+number_in [] = None
 number_in (b ∷ bs) =
-    cond (digits_alone (b ∷ bs) && leads b bs && ltb (said_from 0 (b ∷ bs)) (2 ^ 64)) (Is (said_from 0 (b ∷ bs))) Not
+    cond (digits_alone (b ∷ bs) && leads b bs && ltb (said_from 0 (b ∷ bs)) (2 ^ 64)) (Some (said_from 0 (b ∷ bs))) None
 
 -- a number as text: of at most 20 digits, the last behind those of a tenth of it
 unfoldable pub spelled : ℕ → ℕ → List ℕ
@@ -56,6 +62,14 @@ pairs (h ∷ l ∷ bs) = (nibble_of h * 16 + nibble_of l) ∷ pairs bs
 
 unfoldable pub body_in : List ℕ → List ℕ
 body_in bs = cond (is_body bs) (pairs bs) (replicate 32 0)
+
+-- a field that is a body
+abbrev pub body_said : List ℕ → Option (List ℕ)
+body_said bs = cond (is_body bs) (Some (body_in bs)) None
+
+-- the byte that two digits say
+abbrev pub byte_in : ℕ → ℕ → Option ℕ
+byte_in h l = cond (ltb (nibble_of h) 16 && ltb (nibble_of l) 16) (Some (nibble_of h * 16 + nibble_of l)) None
 
 -- a body as text
 unfoldable pub glyph_of : ℕ → ℕ

@@ -2,95 +2,72 @@
 // digits." Each direction is one definition on lists of bytes.
 #![tactic(auto)]
 
-ghost use Rattle.std.specs.Prelude.{◌≡◌, ◌+◌, ◌*◌, ◌≤◌, false, length, replicate};
+ghost use Rattle.std.specs.Prelude.{◌≡◌, ◌+◌, ◌*◌, ◌<◌, ◌≤◌, length, SomeIff};
 ghost use Rattle.std.proofs.lemmas.List.Edits.{sets};
-ghost use Rattle.numeral.specs.Numeral.{number_in, nibble_of, is_body, body_in, glyph_of, spelled, numeral_of, hex_of};
-
-// A number read from text, or that the text is none.
-#[derive(Drop)]
-pub enum Number {
-    Is(u64),
-    Not,
-}
-
-// A body read from text, and whether the text is one.
-#[derive(Drop)]
-pub struct Body {
-    pub good: bool,
-    pub bytes: [u8; 32],
-}
-
-// What may stand before the last digit of 2^64 - 1.
-const TENTH: u64 = 1844674407370955161;
+ghost use Rattle.numeral.specs.Numeral.{number_in, begins, with_digit, nibble_of, byte_in, body_said, glyph_of, numeral_of, hex_of};
 
 // The number that a field says: not empty, digits alone, no leading zero, at most 2^64 - 1.
-pub fn read_number(field: &[u8]) -> Number
+pub fn read_number(field: &[u8]) -> Option<u64>
     ensures { result ≡ number_in field.now }
 {
-    let n = field.len();
-    if n == 0 {
-        return Number::Not;
+    if !begins(field) {
+        return None;
     }
-    if (field[0] == b'0') & (n > 1) {
-        return Number::Not;
+    let mut said = 0;
+    for &b in field {
+        said = with_digit(said, b)?;
     }
-    let mut v: u64 = 0;
-    let mut i = 0;
-    while i < n {
-        let b = field[i];
-        if (b < b'0') | (b > b'9') {
-            return Number::Not;
-        }
-        let d = b - b'0';
-        if (v > TENTH) | ((v == TENTH) & (d > 5)) {
-            return Number::Not;
-        }
-        v = v * 10 + d as u64;
-        i += 1;
-    }
-    Number::Is(v)
+    Some(said)
 }
 
-// What a hex digit says, in lower case alone; 16 where it is none.
-fn nibble(b: u8) -> u8
-    ensures { (result ≡ nibble_of b) × (result ≤ 16) }
+// Whether a field begins as a number does: it is not empty, and no zero leads further digits.
+fn begins(field: &[u8]) -> bool
+    ensures { result ≡ begins field.now }
 {
-    if (b >= b'0') & (b <= b'9') {
-        return b - b'0';
-    }
-    if (b >= b'a') & (b <= b'f') {
-        return b - b'a' + 10;
-    }
-    16
+    !matches!(field, [] | [b'0', _, ..])
 }
 
-// The body that a field says: 64 lower-case hex digits, two a byte. A field that is none has zeros.
-pub fn read_body(field: &[u8]) -> Body
-    ensures { (result.good ≡ is_body field.now) × (result.bytes ≡ body_in field.now) }
+// What a number says with a digit behind it; none where the byte is no digit, or the number then above 2^64 - 1.
+fn with_digit(said: u64, b: u8) -> Option<u64>
+    ensures { result ≡ with_digit said b }
 {
-    let mut bytes = [0; 32];
+    match b {
+        b'0'..=b'9' => said.checked_mul(10)?.checked_add((b - b'0') as u64),
+        _ => None,
+    }
+}
+
+// The body that a field says: 64 lower-case hex digits, two a byte.
+pub fn read_body(field: &[u8]) -> Option<[u8; 32]>
+    ensures { result ≡ body_said field.now }
+{
     if field.len() != 64 {
-        return none();
+        return None;
     }
-    let mut i = 0;
-    while i < 32 {
-        let high = nibble(field[2 * i]);
-        let low = nibble(field[2 * i + 1]);
-        if (high > 15) | (low > 15) {
-            return none();
-        }
-        bytes[i] = high * 16 + low;
-        i += 1;
+    let mut body = [0; 32];
+    let (digits, _) = field.as_chunks::<2>();
+    for (i, &[high, low]) in digits.iter().enumerate() {
+        body[i] = byte(high, low)?;
     }
-    Body { good: true, bytes }
+    Some(body)
 }
 
-fn none() -> Body
-    ensures { (result.good ≡ false) × (result.bytes ≡ replicate 32 0) }
+// The byte that two hex digits say; none where one of the two is none.
+fn byte(high: u8, low: u8) -> Option<u8>
+    ensures { result ≡ byte_in high low }
 {
-    Body {
-        good: false,
-        bytes: [0; 32],
+    Some(nibble(high)? * 16 + nibble(low)?)
+}
+
+// What a hex digit says, in lower case alone.
+#[tactic(auto, unfolding(crate::specs::Numeral::nibble_of))]
+fn nibble(b: u8) -> Option<u8>
+    ensures { SomeIff result (nibble_of b < 16) (nibble_of b) }
+{
+    match b {
+        b'0'..=b'9' => Some(b - b'0'),
+        b'a'..=b'f' => Some(b - b'a' + 10),
+        _ => None,
     }
 }
 
@@ -98,33 +75,29 @@ fn none() -> Body
 fn places(v: u64) -> usize
     ensures { (result ≡ length (numeral_of v)) × (result ≤ 20) }
 {
-    let mut n = 1;
-    let mut rest = v;
-    while rest > 9 {
-        rest = rest / 10;
-        n += 1;
+    match v.checked_ilog10() {
+        Some(tens) => tens as usize + 1,
+        None => 1,
     }
-    n
 }
 
-// Writes a number, and answers how many digits it took.
+// Writes a number, and answers how many digits it took. Not by `write!`: it stands at a place of a lent buffer, whose other bytes stay.
 pub fn put_number(out: &mut [u8], at: usize, v: u64) -> usize
     requires { at + 20 ≤ length out.old }
     ensures counts { result ≡ length (numeral_of v) }
     ensures leaves { out.new ≡ sets out.old at (numeral_of v) }
 {
     let n = places(v);
-    let mut left = n;
     let mut rest = v;
-    while left > 0 {
-        left -= 1;
-        out[at + left] = b'0' + (rest % 10) as u8;
-        rest = rest / 10;
+    for i in (0..n).rev() {
+        out[at + i] = b'0' + (rest % 10) as u8;
+        rest /= 10;
     }
     n
 }
 
 // A hex digit.
+#[tactic(auto, unfolding(crate::specs::Numeral::glyph_of))]
 fn glyph(n: u8) -> u8
     requires { n ≤ 15 }
     ensures { result ≡ glyph_of n }
@@ -137,11 +110,8 @@ pub fn put_body(out: &mut [u8], at: usize, body: &[u8])
     requires { at + 2 * length body.now ≤ length out.old }
     ensures { out.new ≡ sets out.old at (hex_of body.now) }
 {
-    let n = body.len();
-    let mut i = 0;
-    while i < n {
-        out[at + 2 * i] = glyph(body[i] / 16);
-        out[at + 2 * i + 1] = glyph(body[i] % 16);
-        i += 1;
+    for (i, &b) in body.iter().enumerate() {
+        out[at + 2 * i] = glyph(b / 16);
+        out[at + 2 * i + 1] = glyph(b % 16);
     }
 }

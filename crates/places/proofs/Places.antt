@@ -60,23 +60,16 @@ module _ (top : ℕ) (l : List ℕ) (at : ℕ) where
   unfolding ascending all_below low_at
   run_start = record { passed = refl; carried = refl }
 
-  module _ {i low : ℕ} (r : Run i low) where
-    pub run_number : (get_or l (at + i) 0 ≡ 0 → ⊥)
-        → (ltb (get_or l (at + i) 0) top && ltb low (get_or l (at + i) 0)) ≡ true
-        → {next : ℕ}
-        → next ≡ get_or l (at + i) 0
-        → Run (i + 1) next
+  -- a turn, at a number x of the place
+  module _ {i low x : ℕ} (r : Run i low) (is : x ≡ get_or l (at + i) 0) (u : x ≡ 0 → ⊥) where
+    pub run_number : (ltb x top && ltb low x) ≡ true → Run (i + 1) x
     unfolding ascending low_at
-    run_number u e q =
+    run_number e =
         record {
-          passed = all_more (placed top l at) i r.passed (rw (placed_low, ← r.carried, ne_eqb _ 0 u, e));
-          carried = rw (q, add-one, ne_eqb _ 0 u);
+          passed = all_more (placed top l at) i r.passed (rw (placed_low, ← r.carried, ← is, ne_eqb x 0 u, e));
+          carried = rw (add-one, ← is, ne_eqb x 0 u);
         }
 
-    pub run_fails : (n : ℕ)
-        → i < n
-        → (get_or l (at + i) 0 ≡ 0 → ⊥)
-        → (ltb (get_or l (at + i) 0) top && ltb low (get_or l (at + i) 0)) ≡ false
-        → ascending top l at n ≡ false
+    pub run_fails : (ltb x top && ltb low x) ≡ false → (n : ℕ) → i < n → ascending top l at n ≡ false
     unfolding ascending
-    run_fails n h u e = all_fails (placed top l at) n i h (rw (placed_low, ← r.carried, ne_eqb _ 0 u, e))
+    run_fails e n h = all_fails (placed top l at) n i h (rw (placed_low, ← r.carried, ← is, ne_eqb x 0 u, e))

@@ -1,18 +1,21 @@
--- The laws of unused places: a run of them in two parts, eight places taken together by their bits, and what stands behind an unused
--- place of a run that ascends. Assumes nothing.
+-- The laws of runs of places: unused ones in two parts and by their bits taken together, a run that is lent as a part, and what stands
+-- behind an unused place of a run that ascends. Assumes nothing.
 use mathlib.Core.Path.{◌≡◌, refl, sym, ap, ap₂, ◌∙◌}
 use mathlib.Core.Bool.{Bool, true, false, ◌&&◌, and-false, and-true, and_assoc, or-false}
-use mathlib.Core.List.{List}
+use mathlib.Core.List.{List, [], ◌∷◌}
 use Prim.Native.Nat.{ℕ, zero, suc, ◌+◌, ◌-◌, ◌≤◌, ◌<◌}
-use native.Mathlib.Nat.{add-zero, add-suc, add_assoc}
+use native.Mathlib.Nat.{add-zero, zero-add, add-suc, add_assoc}
 use native.Mathlib.Numerals.{add-one}
 use native.Mathlib.Omega.{arith}
 use lib.Bits.{bit_or, or_zero_r, or_add_and, and_le_l}
-use lib.ListN.{get_or}
+use lib.ListN.{length, get_or, take, drop, length-drop}
+use lib.Seq.{take_all, length-take-le, get_or-take, get_or-drop}
 use lib.Dec.{eqb, eqb-suc-zero}
 use borrow.Author.Tests.{eqb-true, ne_eqb}
+use Rattle.std.specs.List.{fold, list_all}
+use Rattle.std.proofs.lemmas.List.Folds.{list_all_more}
 use Rattle.ground.specs.Range.{all_below}
-use Rattle.ground.proofs.Ranges.{and_true_right, all_at, all_intro, and_mix, and_again}
+use Rattle.ground.proofs.Ranges.{and_true_right, all_at, all_intro, all_agree, and_again}
 use Rattle.places.specs.Places.{follows, placed, ascending}
 use Rattle.places.proofs.Places.{unused_more}
 
@@ -54,113 +57,77 @@ unused_at l at n i e h =
     front : ascending 0 l at (suc i) ≡ true
     front = all_intro (placed 0 l at) (suc i) (λ j g. all_at (placed 0 l at) n e j (omega arith))
 
--- ---- eight places, taken together
+-- ---- a run of places, lent as a part
 
--- none of eight numbers has a bit
-abbrev pub none : ℕ → ℕ → ℕ → ℕ → ℕ → ℕ → ℕ → ℕ → Bool
-none a b c d e f g h = eqb a 0 && eqb b 0 && eqb c 0 && eqb d 0 && eqb e 0 && eqb f 0 && eqb g 0 && eqb h 0
+module _ (top : ℕ) (l : List ℕ) (at n : ℕ) where
+  part_get : (i : ℕ) → i < n → get_or (take n (drop at l)) (0 + i) 0 ≡ get_or l (at + i) 0
+  part_get i h =
+      ap (λ (k : ℕ). get_or (take n (drop at l)) k 0) (zero-add i) ∙ get_or-take n (drop at l) i 0 h ∙ get_or-drop at l i 0
 
--- the or of all of them
-pub none_or : (a b c d e f g h : ℕ)
-    → eqb (bit_or (bit_or (bit_or (bit_or (bit_or (bit_or (bit_or a b) c) d) e) f) g) h) 0 ≡ none a b c d e f g h
-none_or a b c d e f g h = rw (or_none _ h, or_none _ g, or_none _ f, or_none _ e, or_none _ d, or_none _ c, or_none a b)
+  part_follows : (i : ℕ) → i < n → follows (take n (drop at l)) 0 i ≡ follows l at i
+  unfolding follows
+  part_follows zero h = refl
+  part_follows (suc i) h = rw (part_get i (omega arith), part_get (suc i) h) refl
 
--- one pair more, of two runs of tests
-pair_more : {t : Bool} (r s a x : Bool) → t ≡ (r && s) → (t && (a && x)) ≡ ((r && a) && (s && x))
-pair_more r s a x e = ap (λ (b : Bool). b && (a && x)) e ∙ and_mix r s a x
+  part_placed : (i : ℕ) → i < n → placed top (take n (drop at l)) 0 i ≡ placed top l at i
+  unfolding placed
+  part_placed i h = rw (part_get i h, part_follows i h) refl
 
-eight_mixed : (a b c d e f g h a' b' c' d' e' f' g' h' : Bool)
-    → ((a && a') && (b && b') && (c && c') && (d && d') && (e && e') && (f && f') && (g && g') && (h && h'))
-    ≡ ((a && b && c && d && e && f && g && h) && (a' && b' && c' && d' && e' && f' && g' && h'))
-eight_mixed a b c d e f g h a' b' c' d' e' f' g' h' =
-    pair_more (a && b && c && d && e && f && g) (a' && b' && c' && d' && e' && f' && g') h h'
-    (pair_more (a && b && c && d && e && f) (a' && b' && c' && d' && e' && f') g g'
-    (pair_more (a && b && c && d && e) (a' && b' && c' && d' && e') f f'
-    (pair_more (a && b && c && d) (a' && b' && c' && d') e e'
-    (pair_more (a && b && c) (a' && b' && c') d d'
-    (pair_more (a && b) (a' && b') c c' (and_mix a a' b b'))))))
+  pub part_ascending : (m : ℕ) → m ≡ n → at + n ≤ length l → ascending top (take m (drop at l)) 0 (length (take m (drop at l))) ≡ ascending top l at n
+  unfolding ascending
+  part_ascending m same fits =
+      let long : length (take n (drop at l)) ≡ n = length-take-le n (drop at l) (omega (arith, length-drop at l)) in
+      ap (λ (k : ℕ). all_below (placed top (take k (drop at l)) 0) (length (take k (drop at l)))) same
+      ∙ ap (all_below (placed top (take n (drop at l)) 0)) long
+      ∙ all_agree (placed top (take n (drop at l)) 0) (placed top l at) n part_placed
 
--- each of eight with one more or-ed to it
-none_more : (a b c d e f g h a' b' c' d' e' f' g' h' : ℕ)
-    → none (bit_or a a') (bit_or b b') (bit_or c c') (bit_or d d') (bit_or e e') (bit_or f f') (bit_or g g') (bit_or h h')
-    ≡ (none a b c d e f g h && none a' b' c' d' e' f' g' h')
-none_more a b c d e f g h a' b' c' d' e' f' g' h' =
-    rw (or_none a a', or_none b b', or_none c c', or_none d d', or_none e e', or_none f f', or_none g g', or_none h h')
-    (eight_mixed (eqb a 0) (eqb b 0) (eqb c 0) (eqb d 0) (eqb e 0) (eqb f 0) (eqb g 0) (eqb h 0) (eqb a' 0) (eqb b' 0) (eqb c' 0) (eqb d' 0) (eqb e' 0) (eqb f' 0) (eqb g' 0) (eqb h' 0))
-
--- eight places from `at` on
-unused_one : (l : List ℕ) (at : ℕ) → ascending 0 l at 1 ≡ eqb (get_or l at 0) 0
-unfolding ascending all_below
-unused_one l at = unused_more l at 0 ∙ ap (λ (k : ℕ). eqb (get_or l k 0) 0) (add-zero at)
-
-unused_eight : (l : List ℕ) (at : ℕ)
-    → ascending 0 l at 8
-    ≡ none (get_or l at 0) (get_or l (at + 1) 0) (get_or l (at + 2) 0) (get_or l (at + 3) 0) (get_or l (at + 4) 0) (get_or l (at + 5) 0) (get_or l (at + 6) 0) (get_or l (at + 7) 0)
-unused_eight l at =
-    rw (unused_more l at 7, unused_more l at 6, unused_more l at 5, unused_more l at 4, unused_more l at 3, unused_more l at 2, unused_more l at 1, unused_one l at)
-
--- before the first turn
-pub unused_start : (l : List ℕ) (at : ℕ) → true ≡ ascending 0 l at (at - at)
-unused_start l at = let none_yet : at - at ≡ 0 = omega arith in sym (ap (ascending 0 l at) none_yet ∙ unused_none l at)
-
--- the or of the eight from `at` on
-pub eight_or : (r : List ℕ) (at : ℕ)
-    → eqb (bit_or (bit_or (bit_or (bit_or (bit_or (bit_or (bit_or (get_or r at 0) (get_or r (at + 1) 0)) (get_or r (at + 2) 0)) (get_or r (at + 3) 0)) (get_or r (at + 4) 0)) (get_or r (at + 5) 0)) (get_or r (at + 6) 0)) (get_or r (at + 7) 0)) 0
-    ≡ ascending 0 r at 8
-eight_or r at =
-    none_or (get_or r at 0) (get_or r (at + 1) 0) (get_or r (at + 2) 0) (get_or r (at + 3) 0) (get_or r (at + 4) 0) (get_or r (at + 5) 0) (get_or r (at + 6) 0) (get_or r (at + 7) 0)
-    ∙ sym (unused_eight r at)
-
--- a turn that takes the eight from i on
-pub eight_more : (r : List ℕ) (at i : ℕ) (a b c d e f g h : ℕ)
-    → at ≤ i
-    → none a b c d e f g h ≡ ascending 0 r at (i - at)
-    → none (bit_or a (get_or r i 0)) (bit_or b (get_or r (i + 1) 0)) (bit_or c (get_or r (i + 2) 0)) (bit_or d (get_or r (i + 3) 0)) (bit_or e (get_or r (i + 4) 0)) (bit_or f (get_or r (i + 5) 0)) (bit_or g (get_or r (i + 6) 0)) (bit_or h (get_or r (i + 7) 0))
-    ≡ ascending 0 r at (i + 8 - at)
-eight_more r at i a b c d e f g h low so =
-    let here : at + (i - at) ≡ i = omega arith in
-    let more : i + 8 - at ≡ i - at + 8 = omega arith in
-    none_more a b c d e f g h (get_or r i 0) (get_or r (i + 1) 0) (get_or r (i + 2) 0) (get_or r (i + 3) 0) (get_or r (i + 4) 0) (get_or r (i + 5) 0) (get_or r (i + 6) 0) (get_or r (i + 7) 0)
-    ∙ ap₂ (λ (p q : Bool). p && q) so (sym (unused_eight r i) ∙ ap (λ (k : ℕ). ascending 0 r k 8) (sym here))
-    ∙ sym (unused_split r at (i - at) 8)
-    ∙ ap (ascending 0 r at) (sym more)
-
--- behind the last turn: the places up to i, and the last eight, some of which may be among them
-pub eight_last : (r : List ℕ) (at i end : ℕ) (a b c d e f g h last : ℕ)
-    → at + 8 ≤ end
-    → i ≤ end
-    → end < i + 8
-    → none a b c d e f g h ≡ ascending 0 r at (i - at)
-    → eqb last 0 ≡ ascending 0 r (end - 8) 8
-    → eqb (bit_or (bit_or (bit_or (bit_or (bit_or (bit_or (bit_or (bit_or a b) c) d) e) f) g) h) last) 0 ≡ ascending 0 r at (end - at)
-eight_last r at i end a b c d e f g h last room low high so ends =
-    let front : ℕ = end - 8 - at in
-    let twice : ℕ = i - (end - 8) in
-    let rest : ℕ = end - i in
-    let passed : i - at ≡ front + twice = omega arith in
+-- all places by a front and the last eight, some of which may be in it
+pub front_and_last : (l : List ℕ) (m n : ℕ)
+    → m ≤ n
+    → 8 ≤ n
+    → n ≤ m + 8
+    → (ascending 0 l 0 m && ascending 0 l (n - 8) 8) ≡ ascending 0 l 0 n
+front_and_last l m n inside many near =
+    let front : ℕ = n - 8 in
+    let twice : ℕ = m - front in
+    let rest : ℕ = n - m in
+    let place : 0 + front ≡ front = omega arith in
+    let passed : m ≡ front + twice = omega arith in
     let eight : 8 ≡ twice + rest = omega arith in
-    let all : end - at ≡ front + 8 = omega arith in
-    let place : at + front ≡ end - 8 = omega arith in
-    let before : ascending 0 r at (i - at) ≡ (ascending 0 r at front && ascending 0 r (end - 8) twice)
-    = ap (ascending 0 r at) passed ∙ unused_split r at front twice ∙ ap (λ (k : ℕ). ascending 0 r at front && ascending 0 r k twice) place in
-    let behind-i : ascending 0 r (end - 8) 8 ≡ (ascending 0 r (end - 8) twice && ascending 0 r (end - 8 + twice) rest)
-    = ap (ascending 0 r (end - 8)) eight ∙ unused_split r (end - 8) twice rest in
-    or_none (bit_or (bit_or (bit_or (bit_or (bit_or (bit_or (bit_or a b) c) d) e) f) g) h) last
-    ∙ ap₂ (λ (p q : Bool). p && q) (none_or a b c d e f g h ∙ so ∙ before) (ends ∙ behind-i)
-    ∙ and_again (ascending 0 r at front) (ascending 0 r (end - 8) twice) (ascending 0 r (end - 8 + twice) rest)
-    ∙ ap (λ (b : Bool). ascending 0 r at front && b) (sym behind-i ∙ ap (λ (k : ℕ). ascending 0 r k 8) (sym place))
-    ∙ sym (unused_split r at front 8)
-    ∙ ap (ascending 0 r at) (sym all)
+    let all : n ≡ front + 8 = omega arith in
+    let before : ascending 0 l 0 m ≡ (ascending 0 l 0 front && ascending 0 l front twice)
+    = ap (ascending 0 l 0) passed ∙ unused_split l 0 front twice ∙ ap (λ (k : ℕ). ascending 0 l 0 front && ascending 0 l k twice) place in
+    let behind-m : ascending 0 l front 8 ≡ (ascending 0 l front twice && ascending 0 l (front + twice) rest)
+    = ap (ascending 0 l front) eight ∙ unused_split l front twice rest in
+    ap₂ ◌&&◌ before behind-m
+    ∙ and_again (ascending 0 l 0 front) (ascending 0 l front twice) (ascending 0 l (front + twice) rest)
+    ∙ ap (λ (b : Bool). ascending 0 l 0 front && b) (sym behind-m ∙ ap (λ (k : ℕ). ascending 0 l k 8) (sym place))
+    ∙ sym (unused_split l 0 front 8)
+    ∙ ap (ascending 0 l 0) (sym all)
 
--- a turn that takes the place i
-pub one_more : (l : List ℕ) (at i all : ℕ) → at ≤ i → eqb all 0 ≡ ascending 0 l at (i - at) → eqb (bit_or all (get_or l i 0)) 0 ≡ ascending 0 l at (i + 1 - at)
-one_more l at i all low so =
-    let here : at + (i - at) ≡ i = omega arith in
-    let more : i + 1 - at ≡ i - at + 1 = omega arith in
-    or_none all (get_or l i 0)
-    ∙ ap₂ (λ (p q : Bool). p && q) so (ap (λ (k : ℕ). eqb (get_or l k 0) 0) (sym here))
-    ∙ sym (unused_more l at (i - at))
-    ∙ ap (ascending 0 l at) (sym more)
+-- ---- places taken together, by their bits
+
+unused_first : (l : List ℕ) (n : ℕ) → n ≤ length l → list_all (λ x. eqb x 0) (take n l) ≡ ascending 0 l 0 n
+unused_first l zero h = sym (unused_none l 0)
+unused_first l (suc n) h =
+    ap (λ (k : ℕ). list_all (λ x. eqb x 0) (take k l)) (sym (add-one n))
+    ∙ list_all_more (λ x. eqb x 0) l n 0 h
+    ∙ ap₂ (λ (a b : Bool). a && b) (unused_first l n (omega arith)) (ap (λ (k : ℕ). eqb (get_or l k 0) 0) (sym (zero-add n)))
+    ∙ sym (unused_suc l 0 n)
+
+-- bits beside those of a list
+bits_of : (b : ℕ) (l : List ℕ) → eqb (fold (λ (bits x : ℕ). bit_or bits x) b l) 0 ≡ (eqb b 0 && list_all (λ x. eqb x 0) l)
+bits_of b [] = sym (and-true (eqb b 0))
+bits_of b (x ∷ l) =
+    bits_of (bit_or b x) l
+    ∙ ap (λ (t : Bool). t && list_all (λ y. eqb y 0) l) (or_none b x)
+    ∙ and_assoc (eqb b 0) (eqb x 0) (list_all (λ y. eqb y 0) l)
+
+pub unused_bits : (l : List ℕ) → eqb (fold (λ (bits x : ℕ). bit_or bits x) 0 l) 0 ≡ ascending 0 l 0 (length l)
+unused_bits l =
+    bits_of 0 l
+    ∙ ap (list_all (λ x. eqb x 0)) (sym (take_all (length l) l (omega arith)))
+    ∙ unused_first l (length l) (omega arith)
 
 -- ---- behind an unused place
 
@@ -208,3 +175,16 @@ module _ (top : ℕ) (l : List ℕ) (at : ℕ) where
     behind n h =
         let all : n ≡ i + (at + n - (at + i)) = omega arith in
         ap (ascending top l at) all ∙ behind_more (at + n - (at + i))
+
+-- the same of all places of a list, and the unused ones lent as its rest
+pub behind_all : (top : ℕ) (l : List ℕ) (i : ℕ)
+    → ascending top l 0 i ≡ true
+    → get_or l i 0 ≡ 0
+    → i ≤ length l
+    → ascending 0 (take (length l - i) (drop i l)) 0 (length (take (length l - i) (drop i l))) ≡ ascending top l 0 (length l)
+behind_all top l i passed e h =
+    let here : 0 + i ≡ i = omega arith in
+    let rest : 0 + length l - (0 + i) ≡ length l - i = omega arith in
+    part_ascending 0 l i (length l - i) _ refl (omega arith)
+    ∙ ap₂ (ascending 0 l) (sym here) (sym rest)
+    ∙ sym (behind top l 0 i passed (ap (λ (k : ℕ). get_or l k 0) here ∙ e) (length l) h)

@@ -2,96 +2,48 @@
 // and where one stands ("01, Sessions and sight"). The columns are lent, and no copy of them is made.
 #![tactic(auto)]
 
-ghost use Rattle.std.specs.Prelude.{◌≡◌, ◌&&◌, ◌+◌, ◌-◌, ◌≤◌, length, eqb};
-ghost use Rattle.ground.specs.Range.{all_below};
-ghost use Rattle.columns.specs.Limits.{sessions, places as all-places};
+ghost use Rattle.std.specs.Prelude.{◌≡◌, ◌&&◌, ◌≤◌, length, eqb};
+ghost use Rattle.ground.specs.Range.{all_below, found_below};
+ghost use Rattle.columns.specs.Limits.{sessions};
 ghost use Rattle.places.specs.Places.{ascending, session_sound};
 ghost use Rattle.places.specs.Open.{open_count, place_in};
 
-use columns::Limits;
+use columns::{Column, LentDesk, Limits};
 
-// The bits of the eight places from i on, taken together: 0 where all of them are unused.
-fn eight(places: &[u32], i: usize) -> u32
-    requires { i + 8 ≤ length places.now }
-    ensures { eqb result 0 ≡ ascending 0 places.now i 8 }
+// The bits of the places, taken together: none where all of them are unused. No place is asked alone, so that many are read at once.
+fn bits(places: &[u32]) -> u32
+    ensures { eqb result 0 ≡ ascending 0 places.now 0 (length places.now) }
 {
-    places[i]
-        | places[i + 1]
-        | places[i + 2]
-        | places[i + 3]
-        | places[i + 4]
-        | places[i + 5]
-        | places[i + 6]
-        | places[i + 7]
+    places.iter().fold(0, |bits, place| bits | *place)
 }
 
-// Whether the places from `at` to `end` are unused, where they are few.
-fn few_unused(places: &[u32], at: usize, end: usize) -> bool
-    requires { (at ≤ end) × (end ≤ length places.now) }
-    ensures { result ≡ ascending 0 places.now at (end - at) }
+// Whether the places are unused: what ascends answers below 0, where there is no number. Most places of a desk are unused. The last
+// eight are looked at whether or not some of them have been, since a rest of single places costs more than all the others.
+fn unused(places: &[u32]) -> bool
+    ensures { result ≡ ascending 0 places.now 0 (length places.now) }
 {
-    let mut all = 0;
-    let mut i = at;
-    while i < end {
-        all = all | places[i];
-        i += 1;
+    let eights = places.len() / 8 * 8;
+    match places.last_chunk::<8>() {
+        Some(last) => bits(&places[..eights]) | bits(last) == 0,
+        None => bits(places) == 0,
     }
-    all == 0
 }
 
-// Whether the places from `at` to `end` are unused: what ascends answers below 0, where there is no number. Most places of a desk are
-// unused, so they are taken together, eight at a time, each into a number of its own that no other waits for; the last eight are
-// looked at whether or not some of them have been.
-fn unused(places: &[u32], at: usize, end: usize) -> bool
-    requires { (at ≤ end) × (end ≤ length places.now) }
-    ensures { result ≡ ascending 0 places.now at (end - at) }
-{
-    if end - at < 8 {
-        return few_unused(places, at, end);
-    }
-    let mut a = 0;
-    let mut b = 0;
-    let mut c = 0;
-    let mut d = 0;
-    let mut e = 0;
-    let mut f = 0;
-    let mut g = 0;
-    let mut h = 0;
-    let mut i = at;
-    while end - i >= 8 {
-        a = a | places[i];
-        b = b | places[i + 1];
-        c = c | places[i + 2];
-        d = d | places[i + 3];
-        e = e | places[i + 4];
-        f = f | places[i + 5];
-        g = g | places[i + 6];
-        h = h | places[i + 7];
-        i += 8;
-    }
-    let all = a | b | c | d | e | f | g | h;
-    all | eight(places, end - 8) == 0
-}
-
-// Whether the n places from `at` on hold numbers from 1 on, below top and ascending, and behind them only unused places
-// ("ascending means no two equal, unused places are zero"). Used places are looked at one by one.
-fn ascends(top: u32, places: &[u32], at: usize, n: usize) -> bool
-    requires { at + n ≤ length places.now }
-    ensures { result ≡ ascending top places.now at n }
+// Whether the places hold numbers from 1 on, below top and ascending, and behind them only unused places ("ascending means no two
+// equal, unused places are zero"). Used places are looked at one by one.
+fn ascends(top: u32, places: &[u32]) -> bool
+    ensures { result ≡ ascending top places.now 0 (length places.now) }
 {
     let mut low = 0;
-    let mut i = 0;
-    while i < n {
-        let x = places[at + i];
+    for (i, &x) in places.iter().enumerate() {
         if x == 0 {
-            return unused(places, at + i, at + n);
+            return unused(&places[i..]);
         }
         if (x < top) & (low < x) {
             low = x;
         } else {
             return false;
         }
-        i += 1;
     }
     true
 }
@@ -99,64 +51,50 @@ fn ascends(top: u32, places: &[u32], at: usize, n: usize) -> bool
 // Whether the numbers ascend and each of the 16 places is sound, open or unused: "its statement (0 to 65,535) and the numbers open when
 // it began: at most 15, ascending, below its own", and its mark 0 or 1. Behind the first unused place there is no session, so that all
 // statements, marks and lists behind it are zero.
-pub fn sessions_sound<'a>(
-    next: u32,
-    numbers: &'a [u32],
-    statements: &'a [u32],
-    marks: &'a [u32],
-    lists: &'a [u32],
-) -> bool
-    requires { (length numbers.now ≡ sessions) × (length statements.now ≡ sessions) × (length marks.now ≡ sessions) × (length lists.now ≡ all-places) }
-    ensures { result ≡ (ascending next numbers.now 0 sessions && all_below (session_sound numbers.now statements.now marks.now lists.now) sessions) }
+pub fn sessions_sound(desk: LentDesk) -> bool
+    ensures { result ≡ (ascending desk.entry.next desk.entry.numbers.now 0 sessions && all_below (session_sound desk.entry.numbers.now desk.entry.statements.now desk.entry.marks.now desk.entry.lists.now) sessions) }
 {
-    if !ascends(next, numbers, 0, Limits::SESSIONS) {
+    let LentDesk {
+        next,
+        numbers,
+        statements,
+        marks,
+        lists,
+    } = desk;
+    if !ascends(next, numbers) {
         return false;
     }
-    let mut k = 0;
-    while k < Limits::SESSIONS {
+    for k in 0..Limits::SESSIONS {
         let number = numbers[k];
         let at = k * Limits::MEMBERS;
         if number == 0 {
-            return unused(statements, k, Limits::SESSIONS)
-                & unused(marks, k, Limits::SESSIONS)
-                & unused(lists, at, Limits::PLACES);
+            return unused(&statements[k..]) & unused(&marks[k..]) & unused(&lists[at..]);
         }
         let fits = (statements[k] <= Limits::LAST_STATEMENT) & (marks[k] <= Limits::SPOILED);
-        if !(fits & ascends(number, lists, at, Limits::MEMBERS)) {
+        let end = at + Limits::MEMBERS;
+        if !(fits & ascends(number, &lists[at..end])) {
             return false;
         }
-        k += 1;
     }
     true
 }
 
-// How many sessions are open.
-pub fn open_count(numbers: &[u32]) -> usize
-    requires { length numbers.now ≡ sessions }
+// How many sessions are open. A filter that is counted takes six times as long.
+pub fn open_count(numbers: &Column) -> usize
     ensures { (result ≡ open_count numbers.now) × (result ≤ sessions) }
 {
     let mut n = 0;
-    let mut k = 0;
-    while k < Limits::SESSIONS {
-        if numbers[k] != 0 {
+    for number in numbers {
+        if *number != 0 {
             n += 1;
         }
-        k += 1;
     }
     n
 }
 
-// The place at which number x stands; where it stands nowhere, 16. Of 0 it is the first unused place: session 0 is never open.
-pub fn find(numbers: &[u32], x: u64) -> usize
-    requires { length numbers.now ≡ sessions }
-    ensures { (result ≡ place_in x numbers.now) × (result ≤ sessions) }
+// The place at which number x stands, if it stands at one. Of 0 it is the first unused place: session 0 is never open.
+pub fn find(numbers: &Column, x: u64) -> Option<usize>
+    ensures { result ≡ found_below sessions (place_in x numbers.now) }
 {
-    let mut k = 0;
-    while k < Limits::SESSIONS {
-        if columns::wide(numbers[k]) == x {
-            return k;
-        }
-        k += 1;
-    }
-    k
+    numbers.iter().position(|number| u64::from(*number) == x)
 }

@@ -3,7 +3,7 @@
 use Prim.Native.Nat.{ℕ, ◌≤◌}
 use mathlib.Core.List.{List}
 use lib.ListN.{length}
-use Rattle.answer.specs.declared.Answer.TheVariants.{IllFormed as Ill}
+use Rattle.answer.specs.declared.Refusal.TheVariants.{IllFormed as Ill}
 use Rattle.answer.specs.Code.{code_of}
 use Rattle.desk.specs.declared.Desk.{Desk}
 use Rattle.kind.specs.Areas.{Areas}

@@ -2,7 +2,7 @@
 -- nothing.
 use Rattle.std.specs.Prelude.{ℕ, ◌+◌, ◌≤◌, ◌≡◌, List, [], ◌∷◌, length}
 use Rattle.std.proofs.lemmas.List.Edits.{sets}
-use Rattle.answer.specs.declared.Answer.TheVariants.{IllFormed as Ill}
+use Rattle.answer.specs.declared.Refusal.TheVariants.{IllFormed as Ill}
 use Rattle.answer.specs.Code.{code_of}
 use Rattle.desk.specs.declared.Desk.{Desk}
 use Rattle.kind.specs.Areas.{Areas}

@@ -1,10 +1,12 @@
 // One call of a script, played on a store, and its answer written as a line ("01, The script and one whole run"). Nothing is decided
 // here: each call is handed to its own function, and what that answers is said. The script carries a Desk from line to line,
 // so a call's words are made of it once, and where the call changes them, the Desk of them again.
+// The areas are lent apart, as C lends them: a call writes some of them and only reads others.
+// One function for each call, alike as they are: given the call as a closure, one for all would no more say whose rule it keeps.
 #![tactic(auto)]
 
 ghost use Rattle.std.specs.Prelude.{◌≡◌, [], ◌+◌, ◌≤◌, length};
-ghost use Rattle.answer.specs.declared.Answer.TheVariants.{IllFormed};
+ghost use Rattle.answer.specs.declared.Refusal.TheVariants.{IllFormed};
 ghost use Rattle.answer.specs.Code.{code_of};
 ghost use Rattle.kind.specs.Areas.{areas};
 ghost use Rattle.words.specs.Words.{desk_in};
@@ -13,12 +15,12 @@ ghost use Rattle.line.specs.declared.Verb.TheVariants.{Format, Open, Seal, Begin
 ghost use Rattle.calls.specs.Calls.{format_leaves, open_leaves, seal_leaves, begin_leaves, next_leaves, insert_leaves, update_leaves, delete_leaves, read_leaves, commit_leaves, withdraw_leaves, sweep_leaves};
 ghost use Rattle.playing.specs.Playing.{Plays, play_rule};
 
-use answer::Answer;
+use answer::Refusal;
 use desk::Desk;
 use line::{Command, Verb};
 use words::Words;
 
-// What a played call leaves beside the areas: the code, the desk, and where its line ends.
+// What a played call leaves beside the areas: the code, as its line says it, the desk, and where its line ends.
 #[derive(Drop)]
 pub struct Played {
     pub code: u32,
@@ -46,19 +48,13 @@ fn format(
     requires { at + longest ≤ length out.old }
     ensures { Plays Format (format_leaves (areas «data».old undo.old status.old) desk) at out.old result (areas «data».new undo.new status.new) out.new }
 {
-    let o = keep::format(data, undo, status);
-    let a = o.answer;
-    let new = o.desk;
-    let code = answer::code(a);
+    let formatted = keep::format(data, undo, status);
+    let code = answer::code(&formatted);
     let end = reply::plain(out, at, code);
-    if code == 0 {
-        Played {
-            code,
-            desk: new,
-            end,
-        }
-    } else {
-        Played { code, desk, end }
+    Played {
+        code,
+        desk: formatted.unwrap_or(desk),
+        end,
     }
 }
 
@@ -66,19 +62,13 @@ fn open(data: &[u8], undo: &[u8], status: &[u8], desk: Desk, out: &mut [u8], at:
     requires { at + longest ≤ length out.old }
     ensures { Plays Open (open_leaves (areas «data».now undo.now status.now) desk) at out.old result (areas «data».now undo.now status.now) out.new }
 {
-    let o = keep::open(data, undo, status);
-    let a = o.answer;
-    let new = o.desk;
-    let code = answer::code(a);
+    let opened = keep::open(data, undo, status);
+    let code = answer::code(&opened);
     let end = reply::plain(out, at, code);
-    if code == 0 {
-        Played {
-            code,
-            desk: new,
-            end,
-        }
-    } else {
-        Played { code, desk, end }
+    Played {
+        code,
+        desk: opened.unwrap_or(desk),
+        end,
     }
 }
 
@@ -94,8 +84,8 @@ fn seal(
     ensures { Plays Seal (seal_leaves (areas «data».old undo.old status.old) desk) at out.old result (areas «data».new undo.new status.new) out.new }
 {
     let w = words::words_of(desk);
-    let a = keep::seal(data, undo, status, &w);
-    let code = answer::code(a);
+    let sealed = keep::seal(data, undo, status, &w);
+    let code = answer::code(&sealed);
     let end = reply::plain(out, at, code);
     Played { code, desk, end }
 }
@@ -112,11 +102,10 @@ fn begin(
     ensures { Plays Begin (begin_leaves (areas «data».now undo.now status.old) desk) at out.old result (areas «data».now undo.now status.new) out.new }
 {
     let mut w = words::words_of(desk);
-    let b = turns::begin(data, undo, status, &mut w);
-    let a = b.answer;
+    let begun = turns::begin(data, undo, status, &mut w);
     let desk = desk_left(&w);
-    let code = answer::code(a);
-    let end = reply::numbered(out, at, code, b.number);
+    let code = answer::code(&begun);
+    let end = reply::numbered(out, at, code, begun.unwrap_or(0));
     Played { code, desk, end }
 }
 
@@ -133,9 +122,9 @@ fn next(
     ensures { Plays Next (next_leaves (areas «data».now undo.now status.now) desk session) at out.old result (areas «data».now undo.now status.now) out.new }
 {
     let mut w = words::words_of(desk);
-    let a = turns::next(data, undo, status, &mut w, session);
+    let moved = turns::next(data, undo, status, &mut w, session);
     let desk = desk_left(&w);
-    let code = answer::code(a);
+    let code = answer::code(&moved);
     let end = reply::plain(out, at, code);
     Played { code, desk, end }
 }
@@ -154,10 +143,9 @@ fn insert(
     ensures { Plays Insert (insert_leaves (areas «data».old undo.now status.now) desk session body.now) at out.old result (areas «data».new undo.now status.now) out.new }
 {
     let w = words::words_of(desk);
-    let i = rows::insert(data, undo, status, &w, session, body);
-    let a = i.answer;
-    let code = answer::code(a);
-    let end = reply::numbered(out, at, code, i.row as u64);
+    let inserted = rows::insert(data, undo, status, &w, session, body);
+    let code = answer::code(&inserted);
+    let end = reply::numbered(out, at, code, inserted.unwrap_or(0) as u64);
     Played { code, desk, end }
 }
 
@@ -176,9 +164,9 @@ fn update(
     ensures { Plays Update (update_leaves (areas «data».old undo.old status.now) desk session row body.now) at out.old result (areas «data».new undo.new status.now) out.new }
 {
     let mut w = words::words_of(desk);
-    let a = rows::update(data, undo, status, &mut w, session, row, body);
+    let updated = rows::update(data, undo, status, &mut w, session, row, body);
     let desk = desk_left(&w);
-    let code = answer::code(a);
+    let code = answer::code(&updated);
     let end = reply::plain(out, at, code);
     Played { code, desk, end }
 }
@@ -197,9 +185,9 @@ fn delete<'a>(
     ensures { Plays Delete (delete_leaves (areas «data».old undo.now status.now) desk session row) at out.old result (areas «data».new undo.now status.now) out.new }
 {
     let mut w = words::words_of(desk);
-    let a = rows::delete(data, undo, status, &mut w, session, row);
+    let deleted = rows::delete(data, undo, status, &mut w, session, row);
     let desk = desk_left(&w);
-    let code = answer::code(a);
+    let code = answer::code(&deleted);
     let end = reply::plain(out, at, code);
     Played { code, desk, end }
 }
@@ -218,12 +206,15 @@ fn read<'a>(
     ensures { Plays Read (read_leaves (areas «data».now undo.now status.now) desk session row) at out.old result (areas «data».now undo.now status.now) out.new }
 {
     let w = words::words_of(desk);
-    let r = rows::read(data, undo, status, &w, session, row);
-    let a = r.answer;
-    let place = r.place;
-    let code = answer::code(a);
-    let body = chain::body(data, undo, place);
-    let end = reply::bodied(out, at, code, r.looked as u64, body);
+    let read = rows::read(data, undo, status, &w, session, row);
+    let code = answer::code(&read);
+    let end = match read {
+        Ok(found) => {
+            let body = chain::body(data, undo, found.place);
+            reply::bodied(out, at, code, found.looked as u64, body)
+        }
+        Err(_) => reply::plain(out, at, code),
+    };
     Played { code, desk, end }
 }
 
@@ -240,9 +231,9 @@ fn commit(
     ensures { Plays Commit (commit_leaves (areas «data».now undo.now status.old) desk session) at out.old result (areas «data».now undo.now status.new) out.new }
 {
     let mut w = words::words_of(desk);
-    let a = turns::commit(data, undo, status, &mut w, session);
+    let committed = turns::commit(data, undo, status, &mut w, session);
     let desk = desk_left(&w);
-    let code = answer::code(a);
+    let code = answer::code(&committed);
     let end = reply::plain(out, at, code);
     Played { code, desk, end }
 }
@@ -260,9 +251,9 @@ fn withdraw(
     ensures { Plays Withdraw (withdraw_leaves (areas «data».old undo.old status.old) desk session) at out.old result (areas «data».new undo.new status.new) out.new }
 {
     let mut w = words::words_of(desk);
-    let a = undoing::withdraw(data, undo, status, &mut w, session);
+    let withdrawn = undoing::withdraw(data, undo, status, &mut w, session);
     let desk = desk_left(&w);
-    let code = answer::code(a);
+    let code = answer::code(&withdrawn);
     let end = reply::plain(out, at, code);
     Played { code, desk, end }
 }
@@ -281,10 +272,12 @@ fn sweep(
     ensures { Plays Sweep (sweep_leaves (areas «data».old undo.old status.now) desk first quota) at out.old result (areas «data».new undo.new status.now) out.new }
 {
     let w = words::words_of(desk);
-    let s = sweeping::sweep(data, undo, status, &w, first, quota);
-    let a = s.answer;
-    let code = answer::code(a);
-    let end = reply::paired(out, at, code, s.next as u64, s.removed as u64);
+    let swept = sweeping::sweep(data, undo, status, &w, first, quota);
+    let code = answer::code(&swept);
+    let end = match swept {
+        Ok(swept) => reply::paired(out, at, code, swept.next as u64, swept.removed as u64),
+        Err(_) => reply::plain(out, at, code),
+    };
     Played { code, desk, end }
 }
 
@@ -293,7 +286,7 @@ fn ill_formed(desk: Desk, out: &mut [u8], at: usize) -> Played
     requires { at + longest ≤ length out.old }
     ensures { (result.code ≡ code_of IllFormed) × (result.desk ≡ desk) × Says (answer_line result.code []) at out.old result.end out.new }
 {
-    let code = answer::code(Answer::IllFormed);
+    let code = u32::from(Refusal::IllFormed);
     let end = reply::plain(out, at, code);
     Played { code, desk, end }
 }

@@ -12,7 +12,7 @@ pub struct Pointer {
     pub raw: u64,
 }
 
-// Where a pointer leads.
+// Where a pointer leads. Three ends of equal rank, so that an Option in a Result would be no plainer.
 #[derive(Drop)]
 pub enum Lead {
     // Nowhere: it is 0, which means none.
@@ -31,6 +31,7 @@ impl Pointer {
     pub const NONE: Pointer = Pointer { raw: 0 };
 
     // The pointer to entry e. The page number has 32 bits.
+    #[tactic(auto, unfolding(crate::specs::Pointer::pointer_to))]
     pub fn to(e: usize) -> Pointer
         requires { e < 2 ^ 32 }
         ensures { result.raw ≡ pointer_to e }
@@ -43,6 +44,7 @@ impl Pointer {
     }
 
     // Where the pointer leads in an area of so many pages; what leads astray breaks its chain ("01, Sessions and sight").
+    #[tactic(auto, using(crate::proofs::PointerLaws::lead_of_zero, crate::proofs::PointerLaws::lead_of_tests, crate::proofs::PointerLaws::lead_of_passed))]
     pub fn lead(self, pages: usize) -> Lead
         ensures { result ≡ lead_of pages self.raw }
     {
@@ -61,6 +63,7 @@ impl Pointer {
 
     // The byte of the area at which the pointer leads, as its page and offset say it. Where it leads to an entry, the entry begins
     // there, and a walk need not wait for the entry's number.
+    #[tactic(auto, unfolding(crate::specs::Pointer::place_led))]
     pub fn place(self) -> usize
         requires { 1 ≤ page_in self.raw }
         ensures { result ≡ place_led self.raw }
@@ -84,6 +87,7 @@ fn offset_in(v: u64) -> usize
 }
 
 // Whether the top byte is that of pointers and the low byte is zero.
+#[tactic(auto, unfolding(crate::specs::Pointer::well_formed))]
 fn well_formed(v: u64) -> bool
     ensures { result ≡ well_formed v }
 {
@@ -91,6 +95,7 @@ fn well_formed(v: u64) -> bool
 }
 
 // Whether an entry begins at this offset of its page: not in the header, between entries, or behind the last.
+#[tactic(auto, using(crate::proofs::PointerLaws::at_entry_header, crate::proofs::PointerLaws::at_entry_behind))]
 fn at_entry(offset: usize) -> bool
     ensures { result ≡ at_entry undo_kind.size undo_kind.count offset }
 {

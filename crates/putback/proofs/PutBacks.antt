@@ -1,12 +1,10 @@
 -- What withdrawing does to one row, step by step as the functions take it ("01, Writes, withdrawal, sweep"): m is the metadata that
 -- they read, and what a callee ensures is a hypothesis. Assumes nothing.
 use mathlib.Core.Path.{◌≡◌, sym, ap, ap₂, ◌∙◌}
-use mathlib.Core.Logic.{◌⊎◌, ⊎_elim}
 use mathlib.Core.Bool.{Bool, true, false, not, ◌&&◌}
 use mathlib.Core.List.{List, []}
-use Prim.Native.Nat.{ℕ, suc, ◌+◌, ◌-◌, ◌≤◌, ◌<◌}
+use Prim.Native.Nat.{ℕ, suc, ◌≤◌, ◌<◌}
 use native.Mathlib.Omega.{arith}
-use lib.ListN.{take, drop}
 use lib.Dec.{eqb, leb}
 use borrow.Author.Tests.{eqb-true}
 use Rattle.ground.proofs.Ranges.{and_true_left}
@@ -15,20 +13,19 @@ use Rattle.kind.specs.Areas.{both}
 use Rattle.records.specs.declared.slot.Slot.{Slot}
 use Rattle.records.specs.declared.entry.Entry.{Entry}
 use Rattle.records.specs.Slot.{slot_at}
-use Rattle.records.specs.Entry.{entry_place, copy_body_at}
-use Rattle.records.proofs.Bodies.{copy_body_at_cut}
+use Rattle.records.specs.Entry.{copy_body_at}
 use Rattle.chain.specs.declared.Link.{Link}
-use Rattle.chain.specs.declared.Link.TheVariants.{End, Break, To}
+use Rattle.chain.specs.declared.Link.TheVariants.{To}
 use Rattle.chain.specs.Chain.{Chain, onto, chain_from, chain_of, link_of}
 use Rattle.chain.proofs.Links.{link_real}
 use Rattle.chain.proofs.Chains.{copy_of}
 use Rattle.chain.proofs.Rows.{slot_version, chain_of_used}
 use Rattle.touching.specs.Touching.{with_slot, with_meta}
 use Rattle.freeing.specs.Freeing.{without_slot, without_entry}
-use Rattle.strands.proofs.Strands.{without_entry_frees, freed_step, versions_end, versions_break, versions_out}
+use Rattle.strands.proofs.Strands.{without_entry_frees, freed_step, versions_none, versions_out}
 use Rattle.putback.specs.PutBack.{own, own_made, unexpired, taken_back, undone_row}
 
--- ---- a slot's version, where m was read in the slot and b is what is_own answered of it
+-- ---- a slot's version, where m was read in the slot and b is what was answered of it
 
 own_number : (n k x c : ℕ) → own n k x c ≡ true → x ≡ n
 unfolding own
@@ -44,15 +41,6 @@ module _ {m : Slot} {b : Bool} (n k r : ℕ) (d : List ℕ) (read : m ≡ slot_a
   own_chain u h some =
       let is : (slot_at r d).create ≡ n = own_number n k (slot_at r d).create (slot_at r d).cmd (own_slot h) in
       chain_of_used d u r (λ z. omega arith)
-
--- ---- a copy is put back
-
-pub put_back_lem : {at : ℕ} {x : Slot} {y : List ℕ} (n r e : ℕ) (m : Slot) (d u : List ℕ)
-    → at ≡ entry_place e
-    → x ≡ unexpired m
-    → y ≡ with_slot n r x (take (at + 48 + 32 - (at + 48)) (drop (at + 48) u)) d
-    → y ≡ with_slot n r (unexpired m) (copy_body_at e u) d
-put_back_lem n r e m d u found is h = h ∙ ap₂ (λ (x : Slot) (body : List ℕ). with_slot n r x body d) is (copy_body_at_cut e u found)
 
 -- ---- behind a slot that S made
 
@@ -81,29 +69,28 @@ pub take_start : {left : ℕ} (n k r : ℕ) (d u : List ℕ) (ptr : ℕ) → lef
     → taken_back n k r (chain_from u r left [] ptr).versions (both d u) ≡ taken_back n k r (chain_from u r (entries u) [] ptr).versions (both d u)
 take_start n k r d u ptr all = ap (λ (fuel : ℕ). taken_back n k r (chain_from u r fuel [] ptr).versions (both d u)) all
 
--- the loop, where d and u are the areas now, m the entry to which the pointer leads, b what is_own answered of its copy
+-- the loop, where d and u are the areas now, m the entry to which the pointer leads, b what was answered of its copy
 module _ {y : List ℕ} (n k r : ℕ) (d u : List ℕ) (left ptr : ℕ) where
-  module _ {b : Bool} (e : ℕ) (m : Entry) (to : link_of u r ptr ≡ To e m) (more : 0 < left) (asked : b ≡ own_made n k m.copy) (freed : y ≡ without_entry n e u) where
-    step : chain_from u r left [] ptr ≡ onto (copy_of e m) (chain_from y r (left - 1) [] m.copy.undo_ptr)
+  module _ {b : Bool} {next : ℕ} (e : ℕ) (m : Entry) (to : link_of u r ptr ≡ To e m) (more : left ≡ suc next) (asked : b ≡ own_made n k m.copy) (freed : y ≡ without_entry n e u) where
+    step : chain_from u r left [] ptr ≡ onto (copy_of e m) (chain_from y r next [] m.copy.undo_ptr)
     step =
-        let k : left ≡ suc (left - 1) = omega arith in
-        ap (λ (fuel : ℕ). chain_from u r fuel [] ptr) k
-        ∙ freed_step r (left - 1) ptr u y e m to (rw freed (without_entry_frees n e u (link_real u r ptr e m to).inside))
+        ap (λ (fuel : ℕ). chain_from u r fuel [] ptr) more
+        ∙ freed_step r next ptr u y e m to (rw freed (without_entry_frees n e u (link_real u r ptr e m to).inside))
 
     -- the rule from the next copy on is the rule from here on
     pub take_on : b ≡ true
-        → taken_back n k r (chain_from y r (left - 1) [] m.copy.undo_ptr).versions (both d y)
+        → taken_back n k r (chain_from y r next [] m.copy.undo_ptr).versions (both d y)
         ≡ taken_back n k r (chain_from u r left [] ptr).versions (both d u)
     take_on h =
-        ap (λ (a : List ℕ). taken_back n k r (chain_from y r (left - 1) [] m.copy.undo_ptr).versions (both d a)) freed
-        ∙ sym (taken_own n k r d u e m (chain_from y r (left - 1) [] m.copy.undo_ptr) (sym asked ∙ h))
+        ap (λ (a : List ℕ). taken_back n k r (chain_from y r next [] m.copy.undo_ptr).versions (both d a)) freed
+        ∙ sym (taken_own n k r d u e m (chain_from y r next [] m.copy.undo_ptr) (sym asked ∙ h))
         ∙ ap (λ (c : Chain). taken_back n k r c.versions (both d u)) (sym step)
 
     pub take_put : {x : List ℕ} → b ≡ false → x ≡ with_slot n r (unexpired m.copy) (copy_body_at e u) d
         → both x y ≡ taken_back n k r (chain_from u r left [] ptr).versions (both d u)
     take_put h put =
         ap₂ both put freed
-        ∙ sym (taken_other n k r d u e m (chain_from y r (left - 1) [] m.copy.undo_ptr) (sym asked ∙ h))
+        ∙ sym (taken_other n k r d u e m (chain_from y r next [] m.copy.undo_ptr) (sym asked ∙ h))
         ∙ ap (λ (c : Chain). taken_back n k r c.versions (both d u)) (sym step)
 
   module _ (emptied : y ≡ without_slot n r d) where
@@ -117,14 +104,9 @@ module _ {y : List ℕ} (n k r : ℕ) (d u : List ℕ) (left ptr : ℕ) where
         take_none (ap (λ (fuel : ℕ). (chain_from u r fuel [] ptr).versions) z ∙ versions_out u r [] ptr)
 
     -- the pointer leads to no copy
-    pub take_end : {l : Link} (tag : Link → ℕ) → ((e : ℕ) (m : Entry) → tag (To e m) ≡ 2) → (tag l ≡ 0) ⊎ (tag l ≡ 1) → l ≡ link_of u r ptr
+    pub take_end : {l : Link} → l ≡ link_of u r ptr → ((e : ℕ) (m : Entry) → l ≡ To e m → ⊥)
         → both y u ≡ taken_back n k r (chain_from u r left [] ptr).versions (both d u)
-    take_end {l} tag two h is = take_none (by l is h)
-      where
-        by : (l : Link) → l ≡ link_of u r ptr → (tag l ≡ 0) ⊎ (tag l ≡ 1) → (chain_from u r left [] ptr).versions ≡ []
-        by End e h = versions_end u r [] ptr left (sym e)
-        by Break e h = versions_break u r [] ptr left (sym e)
-        by (To q m) e h = absurd (⊎_elim (λ (t : tag (To q m) ≡ 0). omega (arith, two q m)) (λ (t : tag (To q m) ≡ 1). omega (arith, two q m)) h)
+    take_end is away = take_none (versions_none u r [] ptr left is away)
 
 -- ---- one row
 
@@ -138,7 +120,7 @@ module _ {m : Slot} {b : Bool} (n k r : ℕ) (d u : List ℕ) (read : m ≡ slot
       rw (own_slot n k r d read asked h, own_chain n k r d read asked u h some)
       (taken ∙ ap (λ (x : Slot). taken_back n k r (chain_from u r (entries u) [] x.undo_ptr).versions (both d u)) read)
 
-  -- "If instead only the expirer is S": c is what is_own answered of the expirer
+  -- "If instead only the expirer is S": c is what the code answered of the expirer
   module _ {c : Bool} (other : b ≡ false) (ended : c ≡ own n k m.expire m.expire_cmd) where
     expirer : {t : Bool} → (not (eqb m.create 0) && c) ≡ t
         → (not (eqb (slot_at r d).create 0) && own n k (slot_at r d).expire (slot_at r d).expire_cmd) ≡ t

@@ -12,13 +12,24 @@ ghost use Rattle.chain.specs.Chain.{chain_from};
 ghost use Rattle.putback.specs.PutBack.{own, unexpired, taken_back, undone_row};
 
 use chain::Link;
+use kind::Kind;
 use records::slot::Slot;
 
-// Whether x, at statement cmd, is S in statement k or later.
-pub fn is_own(number: u64, k: u32, x: u64, cmd: u32) -> bool
-    ensures { result ≡ own number k x cmd }
-{
-    (x == number) & (k <= cmd)
+// "S in statement k or later": whose versions are taken back.
+#[derive(Clone, Copy)]
+pub struct Since {
+    pub number: u64,
+    pub statement: u32,
+}
+
+impl Since {
+    // Whether x, at statement cmd, is S in statement k or later.
+    #[tactic(auto, unfolding(crate::specs::PutBack::own))]
+    pub fn is(self, x: u64, cmd: u32) -> bool
+        ensures { result ≡ own self.number self.statement x cmd }
+    {
+        (x == self.number) & (self.statement <= cmd)
+    }
 }
 
 // A version that nobody has ended: "with expire and expire_cmd cleared".
@@ -26,60 +37,56 @@ fn unexpire(m: Slot) -> Slot
     ensures { result ≡ unexpired m }
 {
     Slot {
-        create: m.create,
         expire: 0,
-        undo_ptr: m.undo_ptr,
-        cmd: m.cmd,
         expire_cmd: 0,
+        ..m
     }
 }
 
 // "put back the copy from its chain, with expire and expire_cmd cleared, and free the entry". The body goes from area to area.
+#[tactic(auto, using(records::proofs::Entries::entry_inside, records::proofs::Bodies::copy_body_at_cut))]
 fn put_back(data: &mut [u8], undo: &mut [u8], r: usize, e: usize, copy: Slot, number: u64)
     requires { (r < rows «data».old) × (e < entries undo.old) }
     ensures leaves_data { «data».new ≡ with_slot number r (unexpired copy) (copy_body_at e undo.old) «data».old }
     ensures leaves_undo { undo.new ≡ without_entry number e undo.old }
 {
-    let at = records::entry::place(e) + 48;
+    let at = Kind::UNDO.place(e) + 48;
     touching::write_slot(data, r, unexpire(copy), &undo[at..at + 32], number);
     freeing::free_entry(undo, e, number);
 }
 
 // Takes back the session's versions behind a slot that it created: frees the entries of its own, and puts back the first copy that is
 // not; "If no copy is left, empty the slot."
-fn take_back(data: &mut [u8], undo: &mut [u8], r: usize, first: u64, number: u64, k: u32)
+fn take_back(data: &mut [u8], undo: &mut [u8], r: usize, first: u64, since: Since)
     requires { r < rows «data».old }
-    ensures { both «data».new undo.new ≡ taken_back number k r (chain_from undo.old r (entries undo.old) [] first).versions (both «data».old undo.old) }
+    ensures { both «data».new undo.new ≡ taken_back since.number since.statement r (chain_from undo.old r (entries undo.old) [] first).versions (both «data».old undo.old) }
 {
-    let mut left = kind::entries(undo);
     let mut ptr = first;
-    while left > 0 {
-        let l = chain::follow(undo, r, ptr);
-        let Link::To(e, m) = l else {
+    for _ in 0..kind::entries(undo) {
+        let Link::To(e, m) = chain::follow(undo, r, ptr) else {
             break;
         };
         let copy = m.copy;
-        if !is_own(number, k, copy.create, copy.cmd) {
-            put_back(data, undo, r, e, copy, number);
+        if !since.is(copy.create, copy.cmd) {
+            put_back(data, undo, r, e, copy, since.number);
             return;
         }
-        freeing::free_entry(undo, e, number);
+        freeing::free_entry(undo, e, since.number);
         ptr = copy.undo_ptr;
-        left -= 1;
     }
-    freeing::empty_slot(data, r, number);
+    freeing::empty_slot(data, r, since.number);
 }
 
 // Withdraws from one row: "If the slot's creator is S .. If instead only the expirer is S, clear both expire fields." An empty slot is
 // passed by.
-pub fn undo_row(data: &mut [u8], undo: &mut [u8], r: usize, number: u64, k: u32)
-    requires { (r < rows «data».old) × (0 < number) }
-    ensures { both «data».new undo.new ≡ undone_row number k r (both «data».old undo.old) }
+pub fn undo_row(data: &mut [u8], undo: &mut [u8], r: usize, since: Since)
+    requires { (r < rows «data».old) × (0 < since.number) }
+    ensures { both «data».new undo.new ≡ undone_row since.number since.statement r (both «data».old undo.old) }
 {
     let m = records::slot::read_slot(data, r);
-    if is_own(number, k, m.create, m.cmd) {
-        take_back(data, undo, r, m.undo_ptr, number, k);
-    } else if (m.create != 0) & is_own(number, k, m.expire, m.expire_cmd) {
-        touching::write_meta(data, r, unexpire(m), number);
+    if since.is(m.create, m.cmd) {
+        take_back(data, undo, r, m.undo_ptr, since);
+    } else if (m.create != 0) & since.is(m.expire, m.expire_cmd) {
+        touching::write_meta(data, r, unexpire(m), since.number);
     }
 }

@@ -1,5 +1,6 @@
 // An answer as a line ("01, The script and one whole run"): "Answers: the code, and where it is 0 the fields". Each writes its line at a
-// place of a lent buffer and answers where the line ends.
+// place of a lent buffer and answers where the line ends. Buffer and place stay two: a struct of both would be lent to write, and each clause
+// would say its place before and after besides. The code is a number here, as the line says it.
 #![tactic(auto)]
 
 ghost use Rattle.std.specs.Prelude.{◌≡◌, [], ◌∷◌, ◌+◌, ◌≤◌, length};
@@ -39,6 +40,9 @@ fn body_field(out: &mut [u8], at: usize, body: &[u8]) -> usize
     numeral::put_body(out, at + 1, body);
     at + 1 + 2 * body.len()
 }
+
+// One function for each number of fields: one over a list of them needs an enum that holds the body, a loop with its invariant, and a bound on how
+// many there are, which no caller has to show now.
 
 // The code alone.
 pub fn plain(out: &mut [u8], at: usize, code: u32) -> usize

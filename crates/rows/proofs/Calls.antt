@@ -1,16 +1,20 @@
 -- The rules of insert, update, delete and read, case by case. Assumes nothing.
-use mathlib.Core.Path.{◌≡◌, refl, sym, ap, ap₂, ◌∙◌}
-use mathlib.Core.Bool.{Bool, false, ◌||◌, or-true, or-false, cond}
+use mathlib.Core.Path.{◌≡◌, refl, sym, ap, ◌∙◌}
+use mathlib.Core.Bool.{Bool, true, false, ◌||◌, or-true, or-false, cond}
 use mathlib.Core.List.{List, [], ◌∷◌}
 use Prim.Native.Nat.{ℕ, zero, suc, ◌*◌, ◌<◌, ◌≤◌, ◌^◌}
 use native.Mathlib.Nat.{mul-le-mul}
 use native.Mathlib.Omega.{arith}
 use lib.ListN.{length, get_or}
-use lib.Dec.{eqb}
-use borrow.Author.Tests.{eq-eqb, ne_eqb}
+use lib.Dec.{eqb, leb}
+use borrow.Author.Tests.{eq-eqb, ne_eqb, leb-true, leb-false}
+use Rattle.std.specs.Prelude.{Result, Ok, Err, Option, Some, None, ok_or}
+use Rattle.ground.specs.Range.{found_below}
 use Rattle.ground.specs.Refuse.{first_of, settle}
-use Rattle.answer.specs.declared.Answer.{Answer}
+use Rattle.answer.specs.declared.Refusal.{Refusal}
+use Rattle.answer.specs.declared.Refusal.TheVariants.{NoRoom}
 use Rattle.answer.specs.Code.{code_of}
+use Rattle.answer.proofs.Codes.{code_of_positive}
 use Rattle.desk.specs.declared.Desk.{Desk}
 use Rattle.desk.specs.View.{View}
 use Rattle.places.specs.Open.{place_in}
@@ -21,23 +25,21 @@ use Rattle.sight.specs.Sight.{view_of}
 use Rattle.sight.proofs.Fronts.{FrontOf, used_front}
 use Rattle.kind.specs.Kind.{rows, entries}
 use Rattle.kind.specs.Areas.{Areas, areas}
+use Rattle.chain.specs.declared.Found.{Found}
 use Rattle.chain.specs.declared.Place.{Place}
 use Rattle.chain.specs.declared.Place.TheVariants.{Nowhere}
 use Rattle.chain.specs.Walk.{walk_rule}
-use Rattle.admit.specs.declared.Admitted.TheVariants.{Refused}
 use Rattle.admit.proofs.Admissions.{Admits, admission, refuses, goes_on, admits_at, admits_place, admits_number, admits_sound}
 use Rattle.admit.proofs.Admissions.{Unspoiled, unspoiled_admission, refuses_unspoiled, refuses_calm, goes_past}
 use Rattle.vacant.specs.Vacant.{lowest_empty, lowest_free}
-use Rattle.vacant.proofs.Vacants.{lowest_empty_lt, lowest_free_lt}
+use Rattle.vacant.proofs.Vacants.{lowest_empty_le, lowest_free_le}
 use Rattle.doubt.specs.Doubt.{doubts}
-use Rattle.seeking.specs.declared.Sought.{Sought}
-use Rattle.seeking.specs.declared.Sought.TheVariants.{Found, Refused as Unfound}
 use Rattle.seeking.specs.Seeking.{no_row, breaks, misses, says, seek_rule, write_refusal}
 use Rattle.seeking.proofs.Seekings.{reading, writing, seek_refused, seek_passed, seek_walk, write_refused, write_passed, front_seek, front_write}
 use Rattle.writing.specs.Writing.{inserted, updated_data, updated_undo, deleted}
-use Rattle.rows.specs.Rows.{view_in, bad_body, refused_desk, insert_refusal, insert_rule, update_refusal, updated, update_rule, delete_refusal, delete_rule, seen_by, read_refusal, read_rule}
+use Rattle.rows.specs.Rows.{said_seen, view_in, view_lent, bad_body, refused_desk, insert_refusal, insert_rule, update_refusal, updated, update_rule, delete_refusal, delete_rule, seen_by, read_refusal, read_rule}
 
--- ---- what the session admitted at place k sees by, as the words lend it: t is its statement, l are the used places of its list
+-- ---- what the session admitted at place k sees by, as the words lend it
 
 module _ (d u s : List ℕ) (desk : Desk) (x k : ℕ) (a : Admits d u s desk x k) where
   -- with its whole list that is its view
@@ -51,36 +53,47 @@ module _ (d u s : List ℕ) (desk : Desk) (x k : ℕ) (a : Admits d u s desk x k
   front_in : FrontOf (used_of (view_at k desk).list) (view_at k desk).list
   front_in = used_front (view_at k desk).list (list_unused desk (admits_sound d u s desk x k a) k (admits_place d u s desk x k a))
 
-  module _ {t : ℕ} (at : t ≡ get_or desk.statements k 0) where
-    statement_in_lem : (view_in desk x).statement ≡ t
-    statement_in_lem = ap (λ (v : View). v.statement) (sym view_in_lem) ∙ sym at
+  statement_in_lem : {t : ℕ} → t ≡ get_or desk.statements k 0 → (view_in desk x).statement ≡ t
+  statement_in_lem at = ap (λ (v : View). v.statement) (sym view_in_lem) ∙ sym at
 
-    module _ {l : List ℕ} (lent : l ≡ used_of (view_at k desk).list) (r : ℕ) where
-      -- what was sought, and what was asked of a row, with the used places alone
-      sought_in : (q : Sought) → q ≡ seek_rule d u s (view_of x t l) r → seek_rule d u s (view_in desk x) r ≡ q
-      sought_in q e =
-          sym
-          (e
-          ∙ ap₂ (λ (n : ℕ) (m : List ℕ). seek_rule d u s (view_of x n m) r) at lent
-          ∙ front_seek (used_of (view_at k desk).list) (view_at k desk).list front_in x (get_or desk.statements k 0) d u s r
-          ∙ ap (λ (v : View). seek_rule d u s v r) view_in_lem)
+  module _ {v : View} (lent : v ≡ view_lent desk x k) (r : ℕ) where
+    -- what was sought, and what was asked of a row, with the used places alone
+    sought_in : (q : Result Found Refusal) → q ≡ seek_rule d u s v r → seek_rule d u s (view_in desk x) r ≡ q
+    sought_in q e =
+        sym
+        (e
+        ∙ ap (λ (w : View). seek_rule d u s w r) lent
+        ∙ front_seek (used_of (view_at k desk).list) (view_at k desk).list front_in x (get_or desk.statements k 0) d u s r
+        ∙ ap (λ (w : View). seek_rule d u s w r) view_in_lem)
 
-      asked_in : {m : ℕ} → m ≡ write_refusal d u s (view_of x t l) r → write_refusal d u s (view_in desk x) r ≡ m
-      asked_in e =
-          sym
-          (e
-          ∙ ap₂ (λ (n : ℕ) (m : List ℕ). write_refusal d u s (view_of x n m) r) at lent
-          ∙ front_write (used_of (view_at k desk).list) (view_at k desk).list front_in x (get_or desk.statements k 0) d u s r
-          ∙ ap (λ (v : View). write_refusal d u s v r) view_in_lem)
+    asked_in : {m : ℕ} → m ≡ write_refusal d u s v r → write_refusal d u s (view_in desk x) r ≡ m
+    asked_in e =
+        sym
+        (e
+        ∙ ap (λ (w : View). write_refusal d u s w r) lent
+        ∙ front_write (used_of (view_at k desk).list) (view_at k desk).list front_in x (get_or desk.statements k 0) d u s r
+        ∙ ap (λ (w : View). write_refusal d u s w r) view_in_lem)
+
+-- ---- what is vacant
+
+-- a search that found none, and one that found a place: of n places the lowest is i, and o is what the search answered
+pub none_vacant : {n i : ℕ} {o : Option ℕ} {e : Refusal} → o ≡ found_below n i → Err e ≡ ok_or o NoRoom → (e ≡ NoRoom) × (n ≤ i)
+unfolding found_below
+none_vacant {n} {i} {o} {e} is refused = by (leb n i) refl (refused ∙ ap (λ (p : Option ℕ). ok_or p NoRoom) is)
+  where
+    by : (t : Bool) → leb n i ≡ t → Err e ≡ ok_or (cond t None (Some i)) NoRoom → (e ≡ NoRoom) × (n ≤ i)
+    by true h q = (cc, leb-true n i h)
+    by false h q = let z : ◌≡◌ {A = ℕ} 0 1 = cc in absurd (omega arith)
+
+pub some_vacant : {n i k : ℕ} {o : Option ℕ} → o ≡ found_below n i → Ok k ≡ ok_or o NoRoom → (k ≡ i) × (i < n)
+unfolding found_below
+some_vacant {n} {i} {k} {o} is found = by (leb n i) refl (found ∙ ap (λ (p : Option ℕ). ok_or p NoRoom) is)
+  where
+    by : (t : Bool) → leb n i ≡ t → Ok k ≡ ok_or (cond t None (Some i)) NoRoom → (k ≡ i) × (i < n)
+    by true h q = let z : ◌≡◌ {A = ℕ} 0 1 = cc in absurd (omega arith)
+    by false h q = (cc, leb-false n i h)
 
 -- ---- insert
-
--- the row found lies in the area
--- m is how many rows there are
-pub insert_inside : {r m : ℕ} (d : List ℕ) → r ≡ lowest_empty d → m ≡ rows d → (r ≡ m → ⊥) → r < rows d
-insert_inside d is all h =
-    let found : lowest_empty d < rows d = lowest_empty_lt d (λ (e : lowest_empty d ≡ rows d). h (is ∙ e ∙ sym all)) in
-    omega arith
 
 module _ (d u s : List ℕ) (desk : Desk) (x : ℕ) (body : List ℕ) where
   abbrev insert_rest : List (Bool × ℕ)
@@ -92,7 +105,7 @@ module _ (d u s : List ℕ) (desk : Desk) (x : ℕ) (body : List ℕ) where
   abbrev insert_no : ℕ → (ℕ × ℕ) × List ℕ
   insert_no n = ((n, 0), d)
 
-  pub insert_refused : (n : Answer) → unspoiled_admission d u s desk x ≡ Refused n → insert_rule (areas d u s) desk x body ≡ insert_no (code_of n)
+  pub insert_refused : (n : Refusal) → unspoiled_admission d u s desk x ≡ Err n → insert_rule (areas d u s) desk x body ≡ insert_no (code_of n)
   unfolding insert_rule insert_refusal
   insert_refused n e = refuses_unspoiled d u s desk x n insert_rest (insert_done (view_in desk x).statement) insert_no e
 
@@ -105,14 +118,15 @@ module _ (d u s : List ℕ) (desk : Desk) (x : ℕ) (body : List ℕ) where
     insert_5 h = insert_on ∙ rw (ne_eqb (length body) 32 h)
 
     module _ (long : length body ≡ 32) where
-      pub insert_11 : {r m : ℕ} → r ≡ lowest_empty d → m ≡ rows d → r ≡ m → insert_rule (areas d u s) desk x body ≡ insert_no 11
-      insert_11 is all h = insert_on ∙ rw (eq-eqb (length body) 32 long, eq-eqb (lowest_empty d) (rows d) (sym is ∙ h ∙ all))
+      pub insert_11 : rows d ≤ lowest_empty d → insert_rule (areas d u s) desk x body ≡ insert_no 11
+      insert_11 full =
+          let all : lowest_empty d ≡ rows d = omega (arith, full, lowest_empty_le d) in insert_on ∙ rw (eq-eqb (length body) 32 long, eq-eqb (lowest_empty d) (rows d) all)
 
-      pub insert_0 : {r m t : ℕ} {y : List ℕ} → r ≡ lowest_empty d → m ≡ rows d → (r ≡ m → ⊥) → t ≡ get_or desk.statements k 0 → y ≡ inserted x t r body d
+      pub insert_0 : {r t : ℕ} {y : List ℕ} → r ≡ lowest_empty d → lowest_empty d < rows d → t ≡ get_or desk.statements k 0 → y ≡ inserted x t r body d
           → insert_rule (areas d u s) desk x body ≡ ((0, r), y)
-      insert_0 {r} {m} {t} {y} is all h at put =
+      insert_0 {r} {t} {y} is some at put =
           insert_on
-          ∙ rw (eq-eqb (length body) 32 long, ne_eqb (lowest_empty d) (rows d) (λ (e : lowest_empty d ≡ rows d). h (is ∙ e ∙ sym all)))
+          ∙ rw (eq-eqb (length body) 32 long, ne_eqb (lowest_empty d) (rows d) (λ (e : lowest_empty d ≡ rows d). omega arith))
           (ap insert_done (statement_in_lem d u s desk x k a.admitted at)
           ∙ ap (λ (i : ℕ). ((0, i), inserted x t i body d)) (sym is)
           ∙ ap (λ (l : List ℕ). ((0, r), l)) (sym put))
@@ -124,8 +138,8 @@ pub desk_calm : (n x : ℕ) (desk : Desk) → eqb n 10 ≡ false → refused_des
 unfolding refused_desk
 desk_calm n x desk e = rw e refl
 
--- a 10 marks the session at its place: r is the answer handed on, and y the desk left
-pub desk_told : (d u s : List ℕ) (desk : Desk) (x k : ℕ) → Unspoiled d u s desk x k → {r n : Answer} {y : Desk} → r ≡ n
+-- a 10 marks the session at its place: r is the refusal handed on, and y the desk left
+pub desk_told : (d u s : List ℕ) (desk : Desk) (x k : ℕ) → Unspoiled d u s desk x k → {r n : Refusal} {y : Desk} → r ≡ n
     → y ≡ cond (eqb (code_of n) 10) (spoiled k desk) desk
     → ◌≡◌ {A = ℕ × Desk} (code_of r, y) (code_of n, refused_desk (code_of n) x desk)
 unfolding refused_desk
@@ -146,8 +160,8 @@ module _ (d u s : List ℕ) (v : View) (r : ℕ) {A : Type 0} (rest : List (Bool
   write_on e = ap (λ (m : ℕ). settle m done refused) ((write_passed d u s v r e).passed rest)
 
 -- nothing was refused: the row lies in the area
-pub write_inside : (d u s : List ℕ) (v : View) (r : ℕ) {m : ℕ} → m ≡ write_refusal d u s v r → m ≡ 0 → r < rows d
-write_inside d u s v r asked h = (write_passed d u s v r (sym asked ∙ h)).inside
+pub write_inside : (d u s : List ℕ) (v : View) (r : ℕ) → 0 ≡ write_refusal d u s v r → r < rows d
+write_inside d u s v r asked = (write_passed d u s v r (sym asked)).inside
 
 -- ---- delete
 
@@ -161,7 +175,7 @@ module _ (d u s : List ℕ) (desk : Desk) (x r : ℕ) where
   abbrev delete_no : ℕ → (ℕ × Desk) × List ℕ
   delete_no n = ((n, refused_desk n x desk), d)
 
-  pub delete_refused : (n : Answer) → unspoiled_admission d u s desk x ≡ Refused n → delete_rule (areas d u s) desk x r ≡ ((code_of n, desk), d)
+  pub delete_refused : (n : Refusal) → unspoiled_admission d u s desk x ≡ Err n → delete_rule (areas d u s) desk x r ≡ ((code_of n, desk), d)
   unfolding delete_rule delete_refusal
   delete_refused n e =
       refuses_unspoiled d u s desk x n delete_rest (delete_done (view_in desk x).statement) delete_no e
@@ -172,16 +186,16 @@ module _ (d u s : List ℕ) (desk : Desk) (x r : ℕ) where
     unfolding delete_rule delete_refusal
     delete_on = goes_past d u s desk x k a delete_rest (delete_done (view_in desk x).statement) delete_no
 
-    module _ {t : ℕ} {l : List ℕ} {m : ℕ} (at : t ≡ get_or desk.statements k 0) (lent : l ≡ used_of (view_at k desk).list) (asked : m ≡ write_refusal d u s (view_of x t l) r) where
-      pub delete_no_lem : (m ≡ 0 → ⊥) → delete_rule (areas d u s) desk x r ≡ delete_no m
-      delete_no_lem h =
+    module _ {v : View} (lent : v ≡ view_lent desk x k) where
+      pub delete_no_lem : (n : Refusal) → code_of n ≡ write_refusal d u s v r → delete_rule (areas d u s) desk x r ≡ delete_no (code_of n)
+      delete_no_lem n asked =
           delete_on
-          ∙ write_no d u s (view_in desk x) r [] (delete_done (view_in desk x).statement) delete_no m (asked_in d u s desk x k a.admitted at lent r asked) h
+          ∙ write_no d u s (view_in desk x) r [] (delete_done (view_in desk x).statement) delete_no (code_of n) (asked_in d u s desk x k a.admitted lent r asked) (code_of_positive n)
 
-      pub delete_0 : m ≡ 0 → delete_rule (areas d u s) desk x r ≡ delete_done t
-      delete_0 h =
+      pub delete_0 : {t : ℕ} → t ≡ get_or desk.statements k 0 → 0 ≡ write_refusal d u s v r → delete_rule (areas d u s) desk x r ≡ delete_done t
+      delete_0 at asked =
           delete_on
-          ∙ write_on d u s (view_in desk x) r [] (delete_done (view_in desk x).statement) delete_no (asked_in d u s desk x k a.admitted at lent r asked ∙ h)
+          ∙ write_on d u s (view_in desk x) r [] (delete_done (view_in desk x).statement) delete_no (asked_in d u s desk x k a.admitted lent r asked)
           ∙ ap delete_done (statement_in_lem d u s desk x k a.admitted at)
 
 -- ---- update
@@ -189,13 +203,6 @@ module _ (d u s : List ℕ) (desk : Desk) (x r : ℕ) where
 -- the number of a record of the pages that may be lent is small
 pub small_number : {r n count : ℕ} → n ≤ 64 → count ≤ 127 → r < n * count → r < 2 ^ 32
 small_number {r} {n} {count} few most h = let m : n * count ≤ 64 * 127 = mul-le-mul few most in omega arith
-
--- the entry found lies in the area
--- m is how many entries there are
-pub update_inside : {e m : ℕ} (u : List ℕ) → e ≡ lowest_free u → m ≡ entries u → (e ≡ m → ⊥) → e < entries u
-update_inside u is all h =
-    let found : lowest_free u < entries u = lowest_free_lt u (λ (q : lowest_free u ≡ entries u). h (is ∙ q ∙ sym all)) in
-    omega arith
 
 module _ (d u s : List ℕ) (desk : Desk) (x r : ℕ) (body : List ℕ) where
   abbrev pub update_room : List (Bool × ℕ)
@@ -222,7 +229,7 @@ module _ (d u s : List ℕ) (desk : Desk) (x r : ℕ) (body : List ℕ) where
   abbrev update_end : Bool → (ℕ × Desk) × Areas
   update_end b = settle (first_of (update_rest b)) (update_done (view_in desk x).statement (lowest_free u)) update_no
 
-  pub update_refused : (n : Answer) → unspoiled_admission d u s desk x ≡ Refused n → update_rule (areas d u s) desk x r body ≡ ((code_of n, desk), areas d u s)
+  pub update_refused : (n : Refusal) → unspoiled_admission d u s desk x ≡ Err n → update_rule (areas d u s) desk x r body ≡ ((code_of n, desk), areas d u s)
   unfolding update_rule update_refusal updated
   update_refused n e =
       refuses_unspoiled d u s desk x n (update_rest (no_row d r || bad_body body)) (update_done (view_in desk x).statement (lowest_free u)) update_no e
@@ -238,29 +245,30 @@ module _ (d u s : List ℕ) (desk : Desk) (x r : ℕ) (body : List ℕ) where
     unfolding refused_desk
     update_5 h = update_on ∙ rw (ne_eqb (length body) 32 h, or-true (no_row d r))
 
-    module _ (long : length body ≡ 32) {t : ℕ} {l : List ℕ} {m : ℕ} (at : t ≡ get_or desk.statements k 0) (lent : l ≡ used_of (view_at k desk).list) (asked : m ≡ write_refusal d u s (view_of x t l) r) where
+    module _ (long : length body ≡ 32) {v : View} (lent : v ≡ view_lent desk x k) where
       update_asked : update_rule (areas d u s) desk x r body ≡ update_end (no_row d r)
       update_asked = update_on ∙ rw (eq-eqb (length body) 32 long, or-false (no_row d r))
 
-      pub update_no_lem : (m ≡ 0 → ⊥) → update_rule (areas d u s) desk x r body ≡ update_no m
-      update_no_lem h =
+      pub update_no_lem : (n : Refusal) → code_of n ≡ write_refusal d u s v r → update_rule (areas d u s) desk x r body ≡ update_no (code_of n)
+      update_no_lem n asked =
           update_asked
-          ∙ write_no d u s (view_in desk x) r update_room (update_done (view_in desk x).statement (lowest_free u)) update_no m (asked_in d u s desk x k a.admitted at lent r asked) h
+          ∙ write_no d u s (view_in desk x) r update_room (update_done (view_in desk x).statement (lowest_free u)) update_no (code_of n) (asked_in d u s desk x k a.admitted lent r asked) (code_of_positive n)
 
-      module _ (h : m ≡ 0) {e : ℕ} (is : e ≡ lowest_free u) where
+      module _ (asked : 0 ≡ write_refusal d u s v r) where
         update_room_lem : update_rule (areas d u s) desk x r body ≡ settle (first_of update_room) (update_done (view_in desk x).statement (lowest_free u)) update_no
         update_room_lem =
             update_asked
-            ∙ write_on d u s (view_in desk x) r update_room (update_done (view_in desk x).statement (lowest_free u)) update_no (asked_in d u s desk x k a.admitted at lent r asked ∙ h)
+            ∙ write_on d u s (view_in desk x) r update_room (update_done (view_in desk x).statement (lowest_free u)) update_no (asked_in d u s desk x k a.admitted lent r asked)
 
-        pub update_11 : {m : ℕ} → m ≡ entries u → e ≡ m → update_rule (areas d u s) desk x r body ≡ ((11, desk), areas d u s)
+        pub update_11 : entries u ≤ lowest_free u → update_rule (areas d u s) desk x r body ≡ ((11, desk), areas d u s)
         unfolding refused_desk
-        update_11 all full = update_room_lem ∙ rw (eq-eqb (lowest_free u) (entries u) (sym is ∙ full ∙ all))
+        update_11 full =
+            let all : lowest_free u ≡ entries u = omega (arith, full, lowest_free_le u) in update_room_lem ∙ rw (eq-eqb (lowest_free u) (entries u) all)
 
-        pub update_0 : {m : ℕ} → m ≡ entries u → (e ≡ m → ⊥) → update_rule (areas d u s) desk x r body ≡ update_done t e
-        update_0 all some =
+        pub update_0 : {e t : ℕ} → e ≡ lowest_free u → lowest_free u < entries u → t ≡ get_or desk.statements k 0 → update_rule (areas d u s) desk x r body ≡ update_done t e
+        update_0 {e} is some at =
             update_room_lem
-            ∙ rw (ne_eqb (lowest_free u) (entries u) (λ (q : lowest_free u ≡ entries u). some (is ∙ q ∙ sym all)))
+            ∙ rw (ne_eqb (lowest_free u) (entries u) (λ (q : lowest_free u ≡ entries u). omega arith))
             (ap (λ (i : ℕ). update_done (view_in desk x).statement i) (sym is) ∙ ap (λ (n : ℕ). update_done n e) (statement_in_lem d u s desk x k a.admitted at))
 
 -- ---- read
@@ -275,21 +283,21 @@ module _ (d u s : List ℕ) (desk : Desk) (x r : ℕ) where
   abbrev read_no : ℕ → ℕ × Place × ℕ
   read_no n = (n, Nowhere, 0)
 
-  pub read_refused : (n : Answer) → admission d u s desk x ≡ Refused n → read_rule (areas d u s) desk x r ≡ read_no (code_of n)
+  pub read_refused : (n : Refusal) → admission d u s desk x ≡ Err n → read_rule (areas d u s) desk x r ≡ read_no (code_of n)
   unfolding read_rule read_refusal
   read_refused n e = refuses d u s desk x n read_rest read_done read_no e
 
-  module _ (k : ℕ) (a : Admits d u s desk x k) {t : ℕ} {l : List ℕ} (at : t ≡ get_or desk.statements k 0) (lent : l ≡ used_of (view_at k desk).list) where
+  module _ (k : ℕ) (a : Admits d u s desk x k) {v : View} (lent : v ≡ view_lent desk x k) where
     read_on : read_rule (areas d u s) desk x r ≡ settle (first_of read_rest) read_done read_no
     unfolding read_rule read_refusal
     read_on = goes_on d u s desk x k a read_rest read_done read_no
 
-    pub read_no_lem : (n : Answer) → Unfound n ≡ seek_rule d u s (view_of x t l) r → read_rule (areas d u s) desk x r ≡ read_no (code_of n)
-    read_no_lem n e = read_on ∙ seek_refused d u s (view_in desk x) r n [] read_done read_no (sought_in d u s desk x k a at lent r (Unfound n) e)
-
-    pub read_0 : (place : Place) (n : ℕ) → Found place n ≡ seek_rule d u s (view_of x t l) r → read_rule (areas d u s) desk x r ≡ (0, place, n)
-    read_0 place n e =
-        let found : seek_rule d u s (view_in desk x) r ≡ Found place n = sought_in d u s desk x k a at lent r (Found place n) e in
-        read_on
-        ∙ ap (λ (m : ℕ). settle m read_done read_no) (seek_passed d u s (view_in desk x) r place n found [])
-        ∙ ap seen_by (seek_walk d u s (view_in desk x) r place n found)
+    -- what was sought is what is read
+    pub read_sought : (q : Result Found Refusal) → q ≡ seek_rule d u s v r → said_seen q ≡ read_rule (areas d u s) desk x r
+    read_sought (Err n) e = sym (read_on ∙ seek_refused d u s (view_in desk x) r n [] read_done read_no (sought_in d u s desk x k a lent r (Err n) e))
+    read_sought (Ok f) e =
+        let found : seek_rule d u s (view_in desk x) r ≡ Ok f = sought_in d u s desk x k a lent r (Ok f) e in
+        sym
+        (read_on
+        ∙ ap (λ (m : ℕ). settle m read_done read_no) (seek_passed d u s (view_in desk x) r f found [])
+        ∙ ap seen_by (seek_walk d u s (view_in desk x) r f found))

@@ -7,12 +7,13 @@ use mathlib.Core.Bool.{Bool, true, false, ◌||◌}
 use Prim.Native.Nat.{ℕ}
 use native.Mathlib.Omega.{arith}
 use lib.ListN.{length}
+use Rattle.std.specs.Prelude.{Result, Ok}
 use Rattle.ground.specs.Refuse.{first_of}
 use Rattle.ground.specs.Does.{Does}
 use Rattle.ground.proofs.Once.{once}
 use Rattle.ground.proofs.Refusals.{settled, settle_number}
-use Rattle.answer.specs.declared.Answer.{Answer}
-use Rattle.answer.proofs.Codes.{code_of_injective}
+use Rattle.answer.specs.declared.Refusal.{Refusal}
+use Rattle.answer.proofs.Codes.{answered_once, reported_once}
 use Rattle.desk.specs.declared.Desk.{Desk}
 use Rattle.desk.specs.Sound.{sound}
 use Rattle.desk.specs.Turns.{view_at}
@@ -23,58 +24,59 @@ use Rattle.admit.specs.Admit.{said}
 use Rattle.admit.proofs.Admissions.{asks_unspoiled, told_past, said_once}
 use Rattle.kind.specs.Areas.{Areas}
 use Rattle.records.specs.Slot.{slot_at}
+use Rattle.chain.specs.declared.Found.{Found}
 use Rattle.chain.specs.declared.Place.{Place}
 use Rattle.chain.specs.declared.Place.TheVariants.{Nowhere}
 use Rattle.chain.specs.declared.Walk.{Walk}
-use Rattle.chain.specs.declared.Walk.TheVariants.{Found, Absent, Broken}
+use Rattle.chain.specs.declared.Walk.TheVariants.{Found as At, Absent, Broken}
 use Rattle.chain.specs.Walk.{walk_rule, body_of}
 use Rattle.doubt.specs.Doubt.{doubt_in}
 use Rattle.seeking.specs.Seeking.{no_row}
 use Rattle.seeking.proofs.Seekings.{slot_says, writing, nine_clear}
 use Rattle.vacant.specs.Vacant.{lowest_empty}
 use Rattle.writing.specs.Writing.{inserted, deleted}
-use Rattle.rows.specs.declared.Inserted.{Inserted}
-use Rattle.rows.specs.declared.Seen.{Seen}
 use Rattle.rows.specs.Rows.{said_inserted, said_seen, view_in, bad_body, refused_desk, insert_refusal, insert_rule, update_refusal, updated, update_rule, delete_refusal, delete_rule, seen_by, read_refusal, read_rule}
 use Rattle.rows.proofs.Calls.{update_room, update_rest}
 
 -- ---- no second result
 
 module _ (a : Areas) (d : Desk) (x : ℕ) where
-  pub insert_once : (body : List ℕ) (r r' : Inserted) (y y' : List ℕ)
+  pub insert_once : (body : List ℕ) (r r' : Result ℕ Refusal) (y y' : List ℕ)
       → Does (insert_rule a d x body) (said_inserted r) y
       → Does (insert_rule a d x body) (said_inserted r') y'
       → (r ≡ r') × (y ≡ y')
   insert_once body r r' y y' p q = let o = once p q in (same o.0, o.1)
     where
       same : said_inserted r ≡ said_inserted r' → r ≡ r'
-      same e =
-          let b : r.answer ≡ r'.answer = code_of_injective r.answer r'.answer (ap (λ (n : ℕ × ℕ). n.0) e) in
-          let n : r.row ≡ r'.row = ap (λ (n : ℕ × ℕ). n.1) e in
-          λ i. record { answer = b i; row = n i }
+      same e = reported_once r r' (ap (λ (n : ℕ × ℕ). n.0) e) (ap (λ (n : ℕ × ℕ). n.1) e)
 
   module _ (r : ℕ) where
     module _ (w w' : List ℕ) (long : length w ≡ all_words) (long' : length w' ≡ all_words) where
       -- answer, words and areas
-      pub update_once : (body : List ℕ) (n n' : Answer) (y y' : Areas)
+      pub update_once : (body : List ℕ) (n n' : Result (Unit {0}) Refusal) (y y' : Areas)
           → Does (update_rule a d x r body) (said n w) y
           → Does (update_rule a d x r body) (said n' w') y'
           → ((n ≡ n') × (w ≡ w')) × (y ≡ y')
       update_once body n n' y y' p q = let o = once p q in (said_once w w' long long' n n' o.0, o.1)
 
-      pub delete_once : (n n' : Answer) (y y' : List ℕ)
+      pub delete_once : (n n' : Result (Unit {0}) Refusal) (y y' : List ℕ)
           → Does (delete_rule a d x r) (said n w) y
           → Does (delete_rule a d x r) (said n' w') y'
           → ((n ≡ n') × (w ≡ w')) × (y ≡ y')
       delete_once n n' y y' p q = let o = once p q in (said_once w w' long long' n n' o.0, o.1)
 
-    pub read_once : (s s' : Seen) → said_seen s ≡ read_rule a d x r → said_seen s' ≡ read_rule a d x r → s ≡ s'
-    read_once s s' p q =
-        let e : said_seen s ≡ said_seen s' = p ∙ sym q in
-        let b : s.answer ≡ s'.answer = code_of_injective s.answer s'.answer (ap (λ (n : ℕ × Place × ℕ). n.0) e) in
-        let at : s.place ≡ s'.place = ap (λ (n : ℕ × Place × ℕ). n.1) e in
-        let n : s.looked ≡ s'.looked = ap (λ (n : ℕ × Place × ℕ). n.2) e in
-        λ i. record { answer = b i; place = at i; looked = n i }
+    pub read_once : (s s' : Result Found Refusal) → said_seen s ≡ read_rule a d x r → said_seen s' ≡ read_rule a d x r → s ≡ s'
+    read_once s s' p q = answered_once s s' (ap (λ (n : ℕ × Place × ℕ). n.0) e) same
+      where
+        e : said_seen s ≡ said_seen s'
+        e = p ∙ sym q
+
+        same : (f f' : Found) → s ≡ Ok f → s' ≡ Ok f' → f ≡ f'
+        same f f' is is' =
+            let found : said_seen (Ok f) ≡ said_seen (Ok f') = ap said_seen (sym is) ∙ e ∙ ap said_seen is' in
+            let at : f.place ≡ f'.place = ap (λ (n : ℕ × Place × ℕ). n.1) found in
+            let n : f.looked ≡ f'.looked = ap (λ (n : ℕ × Place × ℕ). n.2) found in
+            λ i. record { place = at i; looked = n i }
 
 -- ---- a refused call leaves the areas, and reports 0; the desk stays but for the mark of a 10
 
@@ -139,7 +141,7 @@ module _ (a : Areas) (d : Desk) (x : ℕ) where
         walk = walk_rule a.«data» a.undo a.status (view_in d x) r
 
         done : (w : Walk) → (seen_by w).0 ≡ 0
-        done (Found place n) = refl
+        done (At place n) = refl
         done Absent = refl
         done Broken = refl
 

@@ -1,38 +1,53 @@
 -- The rules of insert, update, delete and read: what each answers, and what it leaves in the areas that it writes ("01, Writes,
 -- withdrawal, sweep", "01, When the desk says no"); 17 "stands between 6 and 7" ("02, T-05"), 18 "directly after 4" ("02, T-07"). Assumes
 -- nothing.
-use Rattle.std.specs.Prelude.{ℕ, Bool, not, ◌||◌, cond, List, [], ◌∷◌, length, eqb}
+use Rattle.std.specs.Prelude.{ℕ, Bool, not, ◌||◌, cond, List, [], ◌∷◌, length, get_or, eqb, Result, Ok, Err}
 use Rattle.ground.specs.Refuse.{first_of, settle}
-use Rattle.answer.specs.Code.{code_of}
+use Rattle.answer.specs.declared.Refusal.{Refusal}
+use Rattle.answer.specs.Code.{number_of, reported}
 use Rattle.desk.specs.declared.Desk.{Desk}
 use Rattle.desk.specs.View.{View}
 use Rattle.desk.specs.Sound.{sound}
 use Rattle.places.specs.Open.{place_in, is_open}
+use Rattle.columns.specs.Columns.{used_of}
+use Rattle.sight.specs.Sight.{view_of}
 use Rattle.desk.specs.Turns.{view_at, spoiled, is_spoiled}
 use Rattle.kind.specs.Kind.{rows, entries}
 use Rattle.kind.specs.Areas.{Areas, areas, bad_length}
+use Rattle.chain.specs.declared.Found.{Found}
 use Rattle.chain.specs.declared.Place.{Place}
 use Rattle.chain.specs.declared.Place.TheVariants.{Nowhere}
 use Rattle.chain.specs.declared.Walk.{Walk}
-use Rattle.chain.specs.declared.Walk.TheVariants.{Found, Absent, Broken}
+use Rattle.chain.specs.declared.Walk.TheVariants.{Found as At, Absent, Broken}
 use Rattle.chain.specs.Walk.{walk_rule}
 use Rattle.vacant.specs.Vacant.{lowest_empty, lowest_free}
 use Rattle.doubt.specs.Doubt.{doubts}
 use Rattle.seeking.specs.Seeking.{no_row, breaks, misses, says}
 use Rattle.writing.specs.Writing.{inserted, updated_data, updated_undo, deleted}
-use Rattle.rows.specs.declared.Inserted.{Inserted}
-use Rattle.rows.specs.declared.Seen.{Seen}
 
 -- the paper's number and values of what the calls answer
-abbrev pub said_inserted : Inserted → ℕ × ℕ
-said_inserted r = (code_of r.answer, r.row)
+abbrev pub said_inserted : Result ℕ Refusal → ℕ × ℕ
+said_inserted r = (number_of r, reported r)
 
-abbrev pub said_seen : Seen → ℕ × Place × ℕ
-said_seen r = (code_of r.answer, r.place, r.looked)
+-- where the version lies, and how many were looked at; nowhere, and none, where the call is refused
+abbrev pub place_seen : Result Found Refusal → Place
+place_seen (Ok f) = f.place
+place_seen (Err n) = Nowhere
+
+abbrev pub looked_at : Result Found Refusal → ℕ
+looked_at (Ok f) = f.looked
+looked_at (Err n) = 0
+
+abbrev pub said_seen : Result Found Refusal → ℕ × Place × ℕ
+said_seen r = (number_of r, place_seen r, looked_at r)
 
 -- what session x of a desk sees by
 abbrev pub view_in : Desk → ℕ → View
 view_in d x = view_at (place_in x d.numbers) d
+
+-- what the words lend of it to the session at place k: its list as far as it is used
+abbrev pub view_lent : Desk → ℕ → ℕ → View
+view_lent d x k = view_of x (get_or d.statements k 0) (used_of (view_at k d).list)
 
 -- 5: "body not 32 bytes"
 abbrev pub bad_body : List ℕ → Bool
@@ -138,7 +153,7 @@ read_refusal a d x r =
 -- where the version found lies, and "how many versions it looked at, the answer included"; where there is none the call is refused, by 6,
 -- 17 or 7, and this is not asked
 abbrev pub seen_by : Walk → ℕ × Place × ℕ
-seen_by (Found place n) = (0, place, n)
+seen_by (At place n) = (0, place, n)
 seen_by Absent = (0, Nowhere, 0)
 seen_by Broken = (0, Nowhere, 0)
 

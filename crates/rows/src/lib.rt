@@ -1,47 +1,40 @@
-// Insert, update, delete and read ("01, Writes, withdrawal, sweep", "01, When the desk says no"). Areas that a call never writes are
-// lent as they are. The desk is lent as its words: insert and read leave it, and update and delete change nothing of it but one mark, and
-// that only where they answer 10 ("02, T-07").
+// Insert, update, delete and read ("01, Writes, withdrawal, sweep", "01, When the desk says no"). The areas are lent apart, as C lends
+// them, and those that a call never writes are lent to be read. The desk is lent as its words: insert and read leave it, and update and
+// delete change nothing of it but one mark, and that only where they answer 10 ("02, T-07").
 #![tactic(auto)]
 
-ghost use Rattle.std.specs.Prelude.{◌≡◌, cond, ◌<◌, length, eqb};
+ghost use Rattle.std.specs.Prelude.{◌≡◌, cond, ◌<◌, eqb};
 ghost use Rattle.ground.specs.Does.{Does};
 ghost use Rattle.answer.specs.Code.{code_of};
 ghost use Rattle.kind.specs.Areas.{areas};
 ghost use Rattle.columns.specs.Limits.{sessions};
 ghost use Rattle.desk.specs.Turns.{spoiled};
-ghost use Rattle.words.specs.Words.{all_words, desk_in, Desks};
+ghost use Rattle.words.specs.Words.{desk_in, Desks};
+ghost use Rattle.sight.specs.Sight.{said_view};
 ghost use Rattle.admit.specs.Admit.{said};
-ghost use Rattle.chain.specs.declared.Place.TheVariants.{Nowhere};
-ghost use Rattle.rows.specs.Rows.{said_inserted, said_seen, insert_rule, update_rule, delete_rule, read_rule};
+ghost use Rattle.rows.specs.Rows.{said_inserted, said_seen, view_lent, insert_rule, update_rule, delete_rule, read_rule};
 
-use admit::Admitted;
-use answer::Answer;
-use chain::Place;
-use seeking::Sought;
+use answer::Refusal;
+use chain::Found;
+use sight::{StatusPage, View};
 use words::Words;
-
-// What insert answers: the row, 0 where it refuses.
-#[derive(Drop)]
-pub struct Inserted {
-    pub answer: Answer,
-    pub row: usize,
-}
-
-// What read answers: where the version lies, for `chain::body`, and how many versions were looked at; nowhere and 0 where it refuses.
-#[derive(Drop)]
-pub struct Seen {
-    pub answer: Answer,
-    pub place: Place,
-    pub looked: usize,
-}
 
 // "a body of 32 bytes"
 const BODY: usize = 32;
 
-// 10: the row was written by another session that is committed and not seen
-const LOST: u32 = 10;
+// What the session at place k of the desk sees by.
+fn seen_by<'a>(desk: &'a Words, session: u64, k: usize) -> View<'a>
+    requires { k < sessions }
+    ensures { said_view result ≡ view_lent (desk_in desk.now) session k }
+{
+    View {
+        number: session,
+        statement: words::statement(desk, k),
+        list: words::list(desk, k),
+    }
+}
 
-// Makes a new row in the lowest empty slot.
+// Makes a new row in the lowest empty slot, and answers which.
 pub fn insert(
     data: &mut [u8],
     undo: &[u8],
@@ -49,43 +42,26 @@ pub fn insert(
     desk: &Words,
     session: u64,
     body: &[u8],
-) -> Inserted
+) -> Result<usize, Refusal>
     ensures { Does (insert_rule (areas «data».old undo.now status.now) (desk_in desk.now) session body.now) (said_inserted result) «data».new }
 {
-    let k = match admit::admit_unspoiled(data.len(), undo.len(), status.len(), desk, session) {
-        Admitted::Refused(answer) => return unmade(answer),
-        Admitted::At(k) => k,
-    };
+    let k = admit::admit_unspoiled(data.len(), undo.len(), status.len(), desk, session)?;
     if body.len() != BODY {
-        return unmade(Answer::BadArgument);
+        return Err(Refusal::BadArgument);
     }
-    let row = vacant::lowest_empty(data);
-    if row == kind::rows(data) {
-        return unmade(Answer::NoRoom);
-    }
+    let row = vacant::lowest_empty(data).ok_or(Refusal::NoRoom)?;
     writing::insert_at(data, row, session, words::statement(desk, k), body);
-    Inserted {
-        answer: Answer::Done,
-        row,
-    }
-}
-
-// A refused insert: no row.
-fn unmade(answer: Answer) -> Inserted
-    ensures { said_inserted result ≡ (code_of answer, 0) }
-{
-    Inserted { answer, row: 0 }
+    Ok(row)
 }
 
 // A refused write of the session at place k: "After an answer 10, the desk marks that session spoiled, the one change that refusal makes."
-fn unwritten(desk: &mut [u32], k: usize, refusal: Answer) -> Answer
-    requires { (length desk.old ≡ all_words) × (k < sessions) }
-    ensures { (result ≡ refusal) × (desk_in desk.new ≡ cond (eqb (code_of refusal) 10) (spoiled k (desk_in desk.old)) (desk_in desk.old)) × (length desk.new ≡ all_words) }
+fn unwritten(desk: &mut Words, k: usize, refusal: Refusal) -> Refusal
+    requires { k < sessions }
+    ensures { (result ≡ refusal) × (desk_in desk.new ≡ cond (eqb (code_of refusal) 10) (spoiled k (desk_in desk.old)) (desk_in desk.old)) }
 {
-    if answer::code(refusal) != LOST {
-        return refusal;
+    if refusal == Refusal::Conflict {
+        words::spoil(desk, k);
     }
-    words::spoil(desk, k);
     refusal
 }
 
@@ -98,29 +74,23 @@ pub fn update(
     session: u64,
     row: usize,
     body: &[u8],
-) -> Answer
+) -> Result<(), Refusal>
     ensures does { Does (update_rule (areas «data».old undo.old status.now) (desk_in desk.old) session row body.now) (said result desk.new) (areas «data».new undo.new status.now) }
     ensures desks { Desks desk.old desk.new }
 {
-    let k = match admit::admit_unspoiled(data.len(), undo.len(), status.len(), desk, session) {
-        Admitted::Refused(answer) => return answer,
-        Admitted::At(k) => k,
-    };
+    let k = admit::admit_unspoiled(data.len(), undo.len(), status.len(), desk, session)?;
     if body.len() != BODY {
-        return Answer::BadArgument;
+        return Err(Refusal::BadArgument);
     }
     let statement = words::statement(desk, k);
-    let list = words::list(desk, k);
-    let refusal = seeking::may_write(data, undo, status, session, statement, list, row);
-    if answer::code(refusal) != 0 {
-        return unwritten(desk, k, refusal);
+    let view = seen_by(desk, session, k);
+    let page = StatusPage { bytes: status };
+    if let Err(refusal) = seeking::may_write(data, undo, page, view, row) {
+        return Err(unwritten(desk, k, refusal));
     }
-    let e = vacant::lowest_free(undo);
-    if e == kind::entries(undo) {
-        return Answer::NoRoom;
-    }
+    let e = vacant::lowest_free(undo).ok_or(Refusal::NoRoom)?;
     writing::update_at(data, undo, row, e, session, statement, body);
-    Answer::Done
+    Ok(())
 }
 
 // Ends the row's version.
@@ -131,22 +101,19 @@ pub fn delete<'a>(
     desk: &mut Words,
     session: u64,
     row: usize,
-) -> Answer
+) -> Result<(), Refusal>
     ensures does { Does (delete_rule (areas «data».old undo.now status.now) (desk_in desk.old) session row) (said result desk.new) «data».new }
     ensures desks { Desks desk.old desk.new }
 {
-    let k = match admit::admit_unspoiled(data.len(), undo.len(), status.len(), desk, session) {
-        Admitted::Refused(answer) => return answer,
-        Admitted::At(k) => k,
-    };
+    let k = admit::admit_unspoiled(data.len(), undo.len(), status.len(), desk, session)?;
     let statement = words::statement(desk, k);
-    let list = words::list(desk, k);
-    let refusal = seeking::may_write(data, undo, status, session, statement, list, row);
-    if answer::code(refusal) != 0 {
-        return unwritten(desk, k, refusal);
+    let view = seen_by(desk, session, k);
+    let page = StatusPage { bytes: status };
+    if let Err(refusal) = seeking::may_write(data, undo, page, view, row) {
+        return Err(unwritten(desk, k, refusal));
     }
     writing::delete_at(data, row, session, statement);
-    Answer::Done
+    Ok(())
 }
 
 // Finds the version that the session reads. `chain::body` hands its body back where it lies.
@@ -157,33 +124,10 @@ pub fn read<'a>(
     desk: &'a Words,
     session: u64,
     row: usize,
-) -> Seen
+) -> Result<Found, Refusal>
     ensures { said_seen result ≡ read_rule (areas «data».now undo.now status.now) (desk_in desk.now) session row }
 {
-    let k = match admit::admit(data.len(), undo.len(), status.len(), desk, session) {
-        Admitted::Refused(answer) => return unseen(answer),
-        Admitted::At(k) => k,
-    };
-    let statement = words::statement(desk, k);
-    let list = words::list(desk, k);
-    let sought = seeking::seek(data, undo, status, session, statement, list, row);
-    match sought {
-        Sought::Refused(answer) => unseen(answer),
-        Sought::Found(at, looked) => Seen {
-            answer: Answer::Done,
-            place: at,
-            looked,
-        },
-    }
-}
-
-// A refused read: no version, and none counted.
-fn unseen(answer: Answer) -> Seen
-    ensures { said_seen result ≡ (code_of answer, Nowhere, 0) }
-{
-    Seen {
-        answer,
-        place: Place::Nowhere,
-        looked: 0,
-    }
+    let k = admit::admit(data.len(), undo.len(), status.len(), desk, session)?;
+    let view = seen_by(desk, session, k);
+    seeking::seek(data, undo, StatusPage { bytes: status }, view, row)
 }

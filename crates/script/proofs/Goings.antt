@@ -1,60 +1,32 @@
--- A run line by line: what one line leaves, and what holds from line to line until the run is done. Assumes nothing.
+-- A run line by line: what holds from line to line, and what the run is where it is done. Assumes nothing.
 use Prim.Native.Nat.{ℕ, suc, ◌+◌, ◌-◌, ◌≤◌, ◌<◌}
 use native.Mathlib.Omega.{arith}
-use mathlib.Core.Path.{◌≡◌, refl, sym, ap, subst, subst⁻¹, ◌∙◌}
-use mathlib.Core.Bool.{Bool, true, false, cond, true≢false}
+use mathlib.Core.Path.{◌≡◌, refl, subst, subst⁻¹, ◌∙◌}
+use mathlib.Core.Bool.{Bool, true, false}
 use mathlib.Core.List.{List}
 use lib.ListN.{length, take, drop}
 use borrow.Author.Tests.{leb-true, leb-false}
+use Rattle.std.specs.declared.ops.ControlFlow.TheVariants.{Break, Continue}
 use Rattle.kind.specs.Areas.{Areas}
 use Rattle.lines.specs.declared.Line.{Line}
 use Rattle.lines.specs.Lines.{line_at}
 use Rattle.lines.proofs.Ends.{line_start, line_end, ended_end, unended_end}
-use Rattle.line.specs.declared.Command.{Command}
 use Rattle.reply.specs.Reply.{longest}
 use Rattle.script.specs.declared.Footing.{Footing}
 use Rattle.script.specs.declared.Ran.{Ran}
-use Rattle.script.specs.declared.Going.{Going}
-use Rattle.script.specs.Script.{Carried, carried, command_in, Steps, Rests, run_rule, Yields, room_for, begun, Goes}
+use Rattle.script.specs.Script.{Carried, carried, command_in, Steps, Rests, run_rule, Yields, room_for, Goes}
 use Rattle.script.proofs.Portions.{line_left, Sofar, sofar_start, sofar_next, sofar_full, sofar_rest}
 
--- ---- one line
-
-module _ (k : Carried) (text : List ℕ) (l : Line) (at : ℕ) (last : Bool) (made : ℕ) (buffer : List ℕ) (left : Areas) (behind : List ℕ) (is : l ≡ line_at text at) where
-  pub goes_ended : (c : Command) (s : Footing) (n : ℕ) (more : Bool)
-      → l.ended ≡ true
-      → c ≡ command_in k (take (l.end - l.start) (drop l.start text))
-      → Steps k c made buffer (record { footing = s; end = n }) left behind
-      → length behind ≡ length buffer
-      → more ≡ room_for (length behind) n
-      → Goes k text l last made buffer (record { ran = record { footing = s; taken = l.behind; made = n }; more = more }) left behind
-  goes_ended c s n more here command steps long room = record {
-    inside = (omega (arith, (ended_end text at l is here).0, (ended_end text at l is here).1), steps.within);
-    ended = λ _. (
-      subst (λ (x : Command). Steps k x made buffer (record { footing = s; end = n }) left behind) command steps,
-      refl,
-      room ∙ ap (λ (m : ℕ). room_for m n) long,
-    );
-    unended = λ past. absurd (true≢false (sym here ∙ past));
-  }
-
-  pub goes_unended : (r : Ran)
-      → at ≤ length text
-      → l.ended ≡ false
-      → (r.taken ≤ l.end) × (r.made ≤ length buffer)
-      → Rests k.footing l.start (l.end - l.start) last made buffer r behind
-      → left ≡ k.lent
-      → Goes k text l last made buffer (record { ran = r; more = false }) left behind
-  goes_unended r h past inside rests same = record {
-    inside = (omega (arith, inside.0, (line_left text at l.end h (line_end text at l is) (unended_end text at l is past).0).2), inside.1);
-    ended = λ here. absurd (true≢false (sym here ∙ past));
-    unended = λ _. (rests, same, refl);
-  }
-
--- ---- from line to line
+-- what is left of the text, where no line ends
+pub goes_unended : (k : Carried) (text : List ℕ) (l : Line) (at : ℕ) (last : Bool) (made : ℕ) (buffer behind : List ℕ) (r : Ran) → l ≡ line_at text at → at ≤ length text
+    → l.ended ≡ false → (r.taken ≤ l.end) × (r.made ≤ length buffer) → Rests k.footing l.start (l.end - l.start) last made buffer r behind
+    → Goes k text l last made buffer (Break r) k.lent behind
+goes_unended k text l at last made buffer behind r is h past inside rests =
+    let whole = (line_left text at l.end h (line_end text at l is) (unended_end text at l is past).0).2 in
+    (past, rests, refl, (omega (arith, inside.0, whole), inside.1))
 
 -- where there is room for one more answer, and where there is none
-room_yes : (room made : ℕ) → room_for room made ≡ true → made + longest ≤ room
+pub room_yes : (room made : ℕ) → room_for room made ≡ true → made + longest ≤ room
 unfolding longest
 room_yes room made h = omega (arith, leb-true longest (room - made) h)
 
@@ -62,82 +34,58 @@ room_no : (room made : ℕ) → room_for room made ≡ false → room < made + l
 unfolding longest
 room_no room made h = omega (arith, leb-false longest (room - made) h)
 
--- what holds at a reader's place: while the run goes on, the rule does from there on what it does from the start; where it is done, it is the rule's run
-pub record Holds (text : List ℕ) (last : Bool) (k₀ : Carried) (out₀ : List ℕ) (a : Areas) (out : List ℕ) (at : ℕ) (so : Going) : Type 0 where
-  pub inside : (so.ran.taken ≤ length text) × (so.ran.made ≤ length out₀)
+-- what holds at a reader's place: the rule does from there on what it does from the start
+pub record Holds (text : List ℕ) (last : Bool) (k₀ : Carried) (out₀ : List ℕ) (a : Areas) (out : List ℕ) (at : ℕ) (ran : Ran) : Type 0 where
+  pub inside : (ran.taken ≤ length text) × (ran.made ≤ length out₀)
   pub long : length out ≡ length out₀
-  pub goes : so.more ≡ true
-      → (so.ran.taken ≡ at)
-      × (so.ran.made + longest ≤ length out₀)
-      × Sofar text last k₀ out₀ (carried so.ran.footing a) at so.ran.made out
-  pub done : so.more ≡ false → Yields (run_rule k₀ text last (length out₀)) out₀ so.ran a out
+  pub here : at ≡ ran.taken
+  pub sofar : Sofar text last k₀ out₀ (carried ran.footing a) ran.taken ran.made out
 
-pub holds_start : (text : List ℕ) (last : Bool) (s : Footing) (a : Areas) (out : List ℕ) → Holds text last (carried s a) out a out 0 (begun s (length out))
-unfolding begun
+pub holds_start : (text : List ℕ) (last : Bool) (s : Footing) (a : Areas) (out : List ℕ)
+    → Holds text last (carried s a) out a out 0 (record { footing = s; taken = 0; made = 0 })
 holds_start text last s a out = record {
   inside = (omega arith, omega arith);
   long = refl;
-  goes = λ e. (refl, room_yes (length out) 0 e, sofar_start text last (carried s a) out);
-  done = λ e. sofar_full text last (carried s a) out s a 0 0 0 out (sofar_start text last (carried s a) out) (room_no (length out) 0 e);
+  here = refl;
+  sofar = sofar_start text last (carried s a) out;
 }
 
-module _ (text : List ℕ) (last : Bool) (k₀ : Carried) (out₀ : List ℕ) (a : Areas) (out : List ℕ) (at : ℕ) (so : Going) (h : Holds text last k₀ out₀ a out at so) (on : so.more ≡ true)
-    (l : Line) (is : l ≡ line_at text at) (r : Going) (left : Areas) (out' : List ℕ) (same : length out' ≡ length out)
-    (went : Goes (carried so.ran.footing a) text l last so.ran.made out r left out') where
-  place : at ≤ length text
-  place = omega (arith, (h.goes on).0, h.inside.0)
+module _ (text : List ℕ) (last : Bool) (k₀ : Carried) (out₀ : List ℕ) (a : Areas) (out : List ℕ) (at : ℕ) (ran : Ran) (h : Holds text last k₀ out₀ a out at ran) where
+  -- no room for one more answer
+  pub full_done : room_for (length out) ran.made ≡ false → Yields (run_rule k₀ text last (length out₀)) out₀ ran a out
+  full_done e = sofar_full text last k₀ out₀ ran.footing a ran.taken ran.made 0 out h.sofar (omega (arith, h.long, room_no (length out) ran.made e))
 
-  starts : l.start ≡ at
-  starts = line_start text at l is
+  module _ (room : ran.made + longest ≤ length out) (l : Line) (is : l ≡ line_at text ran.taken) (r : Ran) (left : Areas) (out' : List ℕ) where
+    room₀ : ran.made + longest ≤ length out₀
+    room₀ = omega (arith, room, h.long)
 
-  -- an ended line
-  so_far : l.ended ≡ true → Sofar text last k₀ out₀ (carried r.ran.footing left) l.behind r.ran.made out'
-  so_far here =
-      subst⁻¹ (λ (n : ℕ). Sofar text last k₀ out₀ (carried r.ran.footing left) n r.ran.made out') (ended_end text at l is here).1
-      (sofar_next text last k₀ out₀ so.ran.footing a at so.ran.made l.end out (h.goes on).2 (command_in (carried so.ran.footing a) (take (l.end - at) (drop at text))) (record { footing = r.ran.footing; end = r.ran.made }) left out' (h.goes on).1 (line_end text at l is) (ended_end text at l is here).0 refl
-      (subst (λ (n : ℕ). Steps (carried so.ran.footing a) (command_in (carried so.ran.footing a) (take (l.end - n) (drop n text))) so.ran.made out (record { footing = r.ran.footing; end = r.ran.made }) left out') starts (went.ended here).0))
+    -- one line more, and less is left
+    module _ (went : Goes (carried ran.footing a) text l last ran.made out (Continue r) left out') where
+      steps : Steps (carried ran.footing a) (command_in (carried ran.footing a) (take (l.end - ran.taken) (drop ran.taken text))) ran.made out (record { footing = r.footing; end = r.made }) left out'
+      steps =
+          subst (λ (n : ℕ). Steps (carried ran.footing a) (command_in (carried ran.footing a) (take (l.end - n) (drop n text))) ran.made out (record { footing = r.footing; end = r.made }) left out')
+          (line_start text ran.taken l is) went.1
 
-  next_ended : l.ended ≡ true → Holds text last k₀ out₀ left out' l.behind r
-  next_ended here = record {
-    inside = (went.inside.0, omega (arith, went.inside.1, h.long));
-    long = same ∙ h.long;
-    goes = λ e. ((went.ended here).1, room_yes (length out₀) r.ran.made (ap (λ (n : ℕ). room_for n r.ran.made) (sym h.long) ∙ sym (went.ended here).2 ∙ e), so_far here);
-    done = λ e.
-        subst⁻¹ (λ (n : ℕ). Yields (run_rule k₀ text last (length out₀)) out₀ (record { footing = r.ran.footing; taken = n; made = r.ran.made }) left out') (went.ended here).1
-        (sofar_full text last k₀ out₀ r.ran.footing left l.behind r.ran.made 0 out' (so_far here)
-        (room_no (length out₀) r.ran.made (ap (λ (n : ℕ). room_for n r.ran.made) (sym h.long) ∙ sym (went.ended here).2 ∙ e)));
-  }
+      behind : r.taken ≡ l.end + 1
+      behind = went.2 ∙ (ended_end text ran.taken l is went.0).1
 
-  -- what is left of the text
-  next_unended : l.ended ≡ false → Holds text last k₀ out₀ left out' l.behind r
-  next_unended past = record {
-    inside = (went.inside.0, omega (arith, went.inside.1, h.long));
-    long = same ∙ h.long;
-    goes = λ e. absurd (true≢false (sym e ∙ (went.unended past).2));
-    done = λ _.
-        subst⁻¹ (λ (x : Areas). Yields (run_rule k₀ text last (length out₀)) out₀ r.ran x out') (went.unended past).1
-        (sofar_rest text last k₀ out₀ so.ran.footing a at so.ran.made l.end out (h.goes on).2 r.ran out' (h.goes on).1 place (line_end text at l is) (unended_end text at l is past).0
-        (subst (λ (n : ℕ). Rests so.ran.footing n (l.end - n) last so.ran.made out r.ran out') starts (went.unended past).0));
-  }
+      pub holds_next : length out' ≡ length out → Holds text last k₀ out₀ left out' l.behind r
+      holds_next same = record {
+        inside = (omega (arith, behind, (ended_end text ran.taken l is went.0).0), omega (arith, went.1.within, h.long));
+        long = same ∙ h.long;
+        here = omega (arith, went.2);
+        sofar =
+            subst⁻¹ (λ (n : ℕ). Sofar text last k₀ out₀ (carried r.footing left) n r.made out') behind
+            (sofar_next text last k₀ out₀ ran.footing a ran.taken ran.made l.end out h.sofar (command_in (carried ran.footing a) (take (l.end - ran.taken) (drop ran.taken text)))
+            (record { footing = r.footing; end = r.made }) left out' room₀ (line_end text ran.taken l is) (ended_end text ran.taken l is went.0).0 refl steps);
+      }
 
-  -- one line more
-  pub holds_next : Holds text last k₀ out₀ left out' l.behind r
-  holds_next = by l.ended refl
-    where
-      by : (b : Bool) → l.ended ≡ b → Holds text last k₀ out₀ left out' l.behind r
-      by true e = next_ended e
-      by false e = next_unended e
+      pub nearer : suc (length text) - l.behind < suc (length text) - at
+      nearer = omega (arith, h.inside.0, h.here, line_end text ran.taken l is, ended_end text ran.taken l is went.0)
 
-  -- and less is left
-  pub nearer : cond r.more (suc (length text) - l.behind) 0 < cond so.more (suc (length text) - at) 0
-  nearer = by l.ended refl r.more refl
-    where
-      less : (b : Bool) → l.ended ≡ true → cond b (suc (length text) - l.behind) 0 < suc (length text) - at
-      less true here = omega (arith, place, (ended_end text at l is here).0, (ended_end text at l is here).1, line_end text at l is)
-      less false here = omega (arith, place)
-
-      by : (e : Bool) → l.ended ≡ e → (m : Bool) → r.more ≡ m → cond r.more (suc (length text) - l.behind) 0 < cond so.more (suc (length text) - at) 0
-      by true here m q = subst⁻¹ (λ (b : Bool). cond r.more (suc (length text) - l.behind) 0 < cond b (suc (length text) - at) 0) on (less r.more here)
-      by false past m q =
-          subst⁻¹ (λ (b : Bool). cond r.more (suc (length text) - l.behind) 0 < cond b (suc (length text) - at) 0) on
-          (subst⁻¹ (λ (b : Bool). cond b (suc (length text) - l.behind) 0 < suc (length text) - at) (went.unended past).2 (omega (arith, place)))
+    -- the end of the text
+    pub rest_done : Goes (carried ran.footing a) text l last ran.made out (Break r) left out' → Yields (run_rule k₀ text last (length out₀)) out₀ r left out'
+    rest_done went =
+        subst⁻¹ (λ (x : Areas). Yields (run_rule k₀ text last (length out₀)) out₀ r x out') went.2
+        (sofar_rest text last k₀ out₀ ran.footing a ran.taken ran.made l.end out h.sofar r out' room₀ h.inside.0 (line_end text ran.taken l is) (unended_end text ran.taken l is went.0).0
+        (subst (λ (n : ℕ). Rests ran.footing n (l.end - n) last ran.made out r out') (line_start text ran.taken l is) went.1))

@@ -1,5 +1,5 @@
 pub mod Rests
 pub mod Steps
 pub mod Portions
-pub mod Goings
 pub mod Promises
+pub mod Goings

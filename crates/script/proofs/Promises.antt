@@ -10,7 +10,7 @@ use mathlib.Core.List.{List, [], ◌∷◌, ◌++◌, append-nil, append_assoc}
 use lib.ListN.{length, take, drop, length-append, length-drop, take-append-drop}
 use lib.Seq.{drop-length, drop-drop}
 use lib.Dec.{eqb, leb, ltb}
-use borrow.Author.Tests.{eqb-true, ne_eqb, lt-ltb, lt-leb, leb-false}
+use borrow.Author.Tests.{eqb-true, ne_eqb, lt-leb, leb-false}
 use Rattle.ground.proofs.Ranges.{lt_or_le}
 use Rattle.ground.proofs.Refusals.{kept_old}
 use Rattle.lines.specs.Span.{before, parts, lacks}
@@ -34,7 +34,9 @@ use Rattle.sweeping.proofs.Promises.{sweep_refused_leaves}
 use Rattle.line.specs.declared.Verb.{Verb}
 use Rattle.line.specs.declared.Verb.TheVariants.{Format, Open, Seal, Begin, Next, Insert, Update, Delete, Read, Commit, Withdraw, Sweep, IllFormed}
 use Rattle.line.specs.declared.Command.{Command}
-use Rattle.line.specs.Line.{command_of, command_in as said_in, ill, fields, longest as longest_line}
+use Rattle.line.specs.Line.{command_of, ill, longest as longest_line}
+use Rattle.line.proofs.Taken.{call_long}
+use Rattle.std.specs.Option.{unwrap_or}
 use Rattle.reply.specs.Reply.{longest as longest_answer}
 use Rattle.calls.specs.Calls.{Left}
 use Rattle.playing.specs.Playing.{line_of, played_by, play_rule}
@@ -72,7 +74,7 @@ unfolding command_of
 command_long k l h = by k.footing.long
   where
     none : command_of l ≡ ill
-    none = ap (λ (t : Bool). cond t ill (said_in (fields l))) (lt-ltb longest_line (length l) h)
+    none = ap (λ o. unwrap_or o ill) (sym (call_long l h))
 
     by : (b : Bool) → cond b ill (command_of l) ≡ ill
     by true = refl

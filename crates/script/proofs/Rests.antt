@@ -8,7 +8,7 @@ use lib.ListN.{length}
 use lib.Seq.{sets}
 use lib.Dec.{eqb}
 use borrow.Author.Tests.{le-leb, lt-leb, eqb-true, eqb-false, eq-eqb, ne_eqb}
-use Rattle.answer.specs.declared.Answer.TheVariants.{IllFormed as Ill}
+use Rattle.answer.specs.declared.Refusal.TheVariants.{IllFormed as Ill}
 use Rattle.answer.specs.Code.{code_of}
 use Rattle.line.specs.Line.{longest}
 use Rattle.reply.specs.Reply.{Says, answer_line}

@@ -2,7 +2,7 @@
 -- nothing.
 use Rattle.std.specs.Prelude.{ℕ, ◌+◌, ◌-◌, ◌*◌, ◌≤◌, ◌≡◌, Bool, true, false, not, ◌&&◌, cond, List, [], ◌∷◌, ◌++◌, length, take, drop, eqb, leb, ltb}
 use Rattle.std.proofs.lemmas.List.Edits.{sets}
-use Rattle.answer.specs.declared.Answer.TheVariants.{IllFormed as Ill}
+use Rattle.answer.specs.declared.Refusal.TheVariants.{IllFormed as Ill}
 use Rattle.answer.specs.Code.{code_of}
 use Rattle.kind.specs.Kind.{page_size}
 use Rattle.kind.specs.Areas.{Areas, areas}
@@ -20,7 +20,8 @@ use Rattle.playing.specs.Playing.{play_rule, line_of}
 use Rattle.script.specs.declared.Footing.{Footing}
 use Rattle.script.specs.declared.Stepped.{Stepped}
 use Rattle.script.specs.declared.Ran.{Ran}
-use Rattle.script.specs.declared.Going.{Going}
+use Rattle.std.specs.declared.ops.ControlFlow.{ControlFlow}
+use Rattle.std.specs.declared.ops.ControlFlow.TheVariants.{Break, Continue}
 
 -- ---- one call
 
@@ -208,22 +209,18 @@ pub record Yields (w : Portion) (buffer : List ℕ) (r : Ran) (left : Areas) (be
 abbrev pub room_for : ℕ → ℕ → Bool
 room_for room made = leb longest_answer (room - made)
 
--- a run at its start
-unfoldable pub begun : Footing → ℕ → Going
-begun s room = record { ran = record { footing = s; taken = 0; made = 0 }; more = room_for room 0 }
-
--- what one line leaves: the call of an ended one, and the run goes on behind it while there is room; where it is unended, what is left of the
--- text, and the run is done
-pub record Goes (k : Carried) (text : List ℕ) (l : Line) (last : Bool) (made : ℕ) (buffer : List ℕ) (r : Going) (left : Areas) (behind : List ℕ) : Type 0 where
-  pub inside : (r.ran.taken ≤ length text) × (r.ran.made ≤ length buffer)
-  pub ended : l.ended ≡ true
-      → Steps k (command_in k (take (l.end - l.start) (drop l.start text))) made buffer (record { footing = r.ran.footing; end = r.ran.made }) left behind
-      × (r.ran.taken ≡ l.behind)
-      × (r.more ≡ room_for (length buffer) r.ran.made)
-  pub unended : l.ended ≡ false
-      → Rests k.footing l.start (l.end - l.start) last made buffer r.ran behind
-      × (left ≡ k.lent)
-      × (r.more ≡ false)
+-- what one line leaves: the call of an ended one, and the run goes on behind it; where it is unended, what is left of the text, and the run is
+-- done
+abbrev pub Goes : Carried → List ℕ → Line → Bool → ℕ → List ℕ → ControlFlow Ran Ran → Areas → List ℕ → Type 0
+Goes k text l last made buffer (Continue r) left behind =
+    (l.ended ≡ true)
+    × Steps k (command_in k (take (l.end - l.start) (drop l.start text))) made buffer (record { footing = r.footing; end = r.made }) left behind
+    × (r.taken ≡ l.behind)
+Goes k text l last made buffer (Break r) left behind =
+    (l.ended ≡ false)
+    × Rests k.footing l.start (l.end - l.start) last made buffer r behind
+    × (left ≡ k.lent)
+    × ((r.taken ≤ length text) × (r.made ≤ length buffer))
 
 -- "Before an accepted format": nothing is lent, and the desk is none
 unfoldable pub fresh_footing : Footing

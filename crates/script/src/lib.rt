@@ -1,5 +1,6 @@
 // A script run on lent areas ("01, The script and one whole run"): text in, answers out. A text may come in pieces; what one piece
 // leaves, the next goes on from.
+// The areas are lent apart, as C lends them: a call writes some of them and only reads others.
 #![tactic(auto)]
 
 ghost use Rattle.std.specs.Prelude.{◌≡◌, cond, ◌+◌, ◌-◌, ◌≤◌, length, take, drop};
@@ -7,13 +8,15 @@ ghost use Rattle.kind.specs.Areas.{areas};
 ghost use Rattle.line.specs.Line.{command_of, ill};
 ghost use Rattle.reply.specs.Reply.{longest};
 ghost use Rattle.lines.specs.Lines.{line_at};
-ghost use Rattle.script.specs.Script.{named as named·spec, lent as lent·spec, is_format, carried, Steps, fresh_footing, in_line, Rests, Yields, run_rule, room_for, begun, Goes};
+ghost use Rattle.script.specs.Script.{named as named·spec, lent as lent·spec, is_format, carried, Steps, fresh_footing, in_line, Rests, Yields, run_rule, room_for, Goes};
 
-use answer::Answer;
+use answer::Refusal;
 use desk::Desk;
 use kind::Kind;
 use line::{Command, Verb};
-use lines::Line;
+use lines::{Line, Reader};
+use std::ops::ControlFlow;
+use std::ops::ControlFlow::{Break, Continue};
 
 // What a script carries along beside its areas: the desk, how many bytes of the data and of the undo area the last accepted format
 // named, and whether the line it is in has been found too long.
@@ -31,13 +34,6 @@ pub struct Ran {
     pub footing: Footing,
     pub taken: usize,
     pub made: usize,
-}
-
-// How far a run has come, and whether it goes on.
-#[derive(Drop)]
-struct Going {
-    ran: Ran,
-    more: bool,
 }
 
 // What a line leaves beside the areas: what is carried along, and where its answer ends.
@@ -64,20 +60,15 @@ impl Footing {
     fn in_line(self, long: bool) -> Footing
         ensures { result ≡ in_line long self }
     {
-        let desk = self.desk;
-        Footing {
-            desk,
-            data: self.data,
-            undo: self.undo,
-            long,
-        }
+        Footing { long, ..self }
     }
 }
 
 // "at most 3 of each"
 const MOST: u64 = 3;
 
-// How many bytes a format line names of an area; none where it names too many pages.
+// How many bytes a format line names of an area; none where it names too many pages, since no area of 0 bytes is allowed either.
+#[tactic(auto, unfolding(crate::specs::Script::named))]
 fn named(pages: u64) -> usize
     ensures { result ≡ named·spec pages }
 {
@@ -89,12 +80,14 @@ fn named(pages: u64) -> usize
 }
 
 // As many bytes of what is lent; none where it is not so long.
+#[tactic(auto, unfolding(crate::specs::Script::lent))]
 fn lent(n: usize, s: &[u8]) -> usize
     ensures { result ≡ lent·spec n s.now }
 {
     if n <= s.len() { n } else { 0 }
 }
 
+// A choice in a function of its own: what an `if` joins is not known at the calls behind it.
 fn either(b: bool, n: usize, m: usize) -> usize
     ensures { result ≡ cond b n m }
 {
@@ -104,24 +97,11 @@ fn either(b: bool, n: usize, m: usize) -> usize
 fn is_format(verb: Verb) -> bool
     ensures { result ≡ is_format verb }
 {
-    match verb {
-        Verb::Format => true,
-        Verb::Open => false,
-        Verb::Seal => false,
-        Verb::Begin => false,
-        Verb::Next => false,
-        Verb::Insert => false,
-        Verb::Update => false,
-        Verb::Delete => false,
-        Verb::Read => false,
-        Verb::Commit => false,
-        Verb::Withdraw => false,
-        Verb::Sweep => false,
-        Verb::IllFormed => false,
-    }
+    matches!(verb, Verb::Format)
 }
 
-// One call on the part of the areas that it is lent: a format what its line names, the others what the last accepted format named.
+// One call on the part of the areas that it is lent: a format what its line names, the others what the last accepted format named. The areas
+// come as three slices, as the calls take them.
 fn step(
     data: &mut [u8],
     undo: &mut [u8],
@@ -188,7 +168,7 @@ fn rest(footing: Footing, at: usize, end: usize, last: bool, out: &mut [u8], mad
         if (at == end) & !footing.long {
             return waits;
         }
-        let code = answer::code(Answer::IllFormed);
+        let code = u32::from(Refusal::IllFormed);
         let made = reply::plain(out, made, code);
         return Ran {
             footing: footing.in_line(false),
@@ -214,54 +194,32 @@ fn room_for(room: usize, made: usize) -> bool
     room - made >= reply::LONGEST
 }
 
-// A run at its start: nothing is done with, nothing written.
-fn begins(footing: Footing, room: usize) -> Going
-    ensures { result ≡ begun footing room }
-{
-    Going {
-        ran: Ran {
-            footing,
-            taken: 0,
-            made: 0,
-        },
-        more: room_for(room, 0),
-    }
-}
-
-// One line more, and whether the run goes on behind it: an ended line is played, where it is unended it is what is left of the text.
+// One line more: an ended line is played, and the run goes on behind it; where it is unended it is what is left of the text, and the run is done.
 fn goes_on(
     data: &mut [u8],
     undo: &mut [u8],
     status: &mut [u8],
-    so: Going,
+    ran: Ran,
     text: &[u8],
     line: Line,
     last: bool,
     out: &mut [u8],
-) -> Going
-    requires { (line ≡ line_at text.now so.ran.taken) × (so.ran.taken ≤ length text.now) × (so.ran.made + longest ≤ length out.old) }
-    ensures { Goes (carried so.ran.footing (areas «data».old undo.old status.old)) text.now line last so.ran.made out.old result (areas «data».new undo.new status.new) out.new }
+) -> ControlFlow<Ran, Ran>
+    requires { (line ≡ line_at text.now ran.taken) × (ran.taken ≤ length text.now) × (ran.made + longest ≤ length out.old) }
+    ensures { Goes (carried ran.footing (areas «data».old undo.old status.old)) text.now line last ran.made out.old result (areas «data».new undo.new status.new) out.new }
 {
-    let ran = so.ran;
     let footing = ran.footing;
     let made = ran.made;
     if line.ended {
         let command = command_in(text, line.start, line.end, footing.long);
-        let t = step(data, undo, status, footing, command, out, made);
-        let left = t.footing;
-        return Going {
-            ran: Ran {
-                footing: left,
-                taken: line.behind,
-                made: t.end,
-            },
-            more: room_for(out.len(), t.end),
-        };
+        let stepped = step(data, undo, status, footing, command, out, made);
+        return Continue(Ran {
+            footing: stepped.footing,
+            taken: line.behind,
+            made: stepped.end,
+        });
     }
-    Going {
-        ran: rest(footing, line.start, line.end, last, out, made),
-        more: false,
-    }
+    Break(rest(footing, line.start, line.end, last, out, made))
 }
 
 // Runs the lines of a text, one after the other, while the buffer has room for an answer. `last`: no more text comes behind this one.
@@ -277,12 +235,18 @@ pub fn run(
     ensures inside { (result.taken ≤ length text.now) × (result.made ≤ length out.old) }
     ensures runs { Yields (run_rule (carried footing (areas «data».old undo.old status.old)) text.now last (length out.old)) out.old result (areas «data».new undo.new status.new) out.new }
 {
-    let mut reader = lines::new(text);
-    let mut so = begins(footing, out.len());
-    while so.more {
-        let read = lines::next(reader);
-        reader = read.reader;
-        so = goes_on(data, undo, status, so, reader.text, read.line, last, out);
+    let mut reader = Reader::new(text);
+    let mut ran = Ran {
+        footing,
+        taken: 0,
+        made: 0,
+    };
+    while room_for(out.len(), ran.made) {
+        let line = reader.next_line();
+        match goes_on(data, undo, status, ran, text, line, last, out) {
+            Continue(so_far) => ran = so_far,
+            Break(done) => return done,
+        }
     }
-    so.ran
+    ran
 }

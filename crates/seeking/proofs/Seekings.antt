@@ -1,17 +1,18 @@
 -- What seeking a row says to a call: where it refuses, the call's list of refusals answers that number whatever stands behind it; where
 -- it doesn't, the list goes on behind what was asked, and the row has a version that the session reads. Assumes nothing.
-use mathlib.Core.Path.{◌≡◌, refl, sym, ap, ap₂, ◌∙◌}
-use mathlib.Core.Logic.{◌⊎◌, ⊎_elim}
+use mathlib.Core.Path.{◌≡◌, refl, sym, ap, ap₂, subst, ◌∙◌}
+use mathlib.Core.Logic.{⊎_elim}
 use mathlib.Core.Bool.{Bool, true, false, cond}
 use mathlib.Core.List.{List, [], ◌∷◌}
+use Rattle.std.specs.Prelude.{Result, Ok, Err}
 use Prim.Native.Nat.{ℕ, zero, suc, ◌<◌, ◌≤◌}
 use native.Mathlib.Omega.{arith}
 use lib.Dec.{eqb}
 use borrow.Author.Tests.{leb-false, le-leb, lt-leb}
 use Rattle.ground.specs.Refuse.{first_of, settle}
 use Rattle.ground.proofs.Refusals.{first_of_more, first_of_past, first_of_none, settle_refused}
-use Rattle.answer.specs.declared.Answer.{Answer}
-use Rattle.answer.specs.declared.Answer.TheVariants.{BadArgument, Broken, NotThere, InDoubt}
+use Rattle.answer.specs.declared.Refusal.{Refusal}
+use Rattle.answer.specs.declared.Refusal.TheVariants.{BadArgument}
 use Rattle.answer.specs.Code.{code_of}
 use Rattle.kind.specs.Kind.{rows}
 use Rattle.desk.specs.View.{View}
@@ -27,13 +28,11 @@ use Rattle.chain.specs.declared.Walk.{Walk}
 use Rattle.chain.specs.declared.Walk.TheVariants.{Found as At, Absent, Broken as Break}
 use Rattle.chain.specs.Walk.{stamp_of, walk_rule}
 use Rattle.chain.proofs.Walks.{walk_empty, front_walk}
-use Rattle.doubt.specs.declared.Look.{Look}
-use Rattle.doubt.specs.declared.Look.TheVariants.{Found as Seen, Absent as NoVersion, Broken as Torn, Doubted}
-use Rattle.doubt.specs.Doubt.{doubt_in, doubts, look_by, look_rule}
+use Rattle.chain.specs.declared.Found.{Found}
+use Rattle.doubt.specs.declared.Missing.{Missing}
+use Rattle.doubt.specs.Doubt.{doubt_in, doubts, look_by, look_rule, refusal_of}
 use Rattle.doubt.proofs.Doubts.{doubts_slot, front_doubts}
-use Rattle.seeking.specs.declared.Sought.{Sought}
-use Rattle.seeking.specs.declared.Sought.TheVariants.{Found, Refused}
-use Rattle.seeking.specs.Seeking.{no_row, is_broken, breaks, is_absent, misses, says, sought_by, refusal_in, seek_rule, write_refusal}
+use Rattle.seeking.specs.Seeking.{no_row, is_broken, breaks, is_absent, misses, says, sought_by, seek_rule, write_refusal}
 
 -- ---- the walk
 
@@ -53,28 +52,30 @@ met Break b a = let z : ◌≡◌ {A = ℕ} 0 1 = cc in absurd (omega arith)
 abbrev front : Bool → Bool → Walk → List (Bool × ℕ) → List (Bool × ℕ)
 front b t w rest = (b, 5) ∷ (is_broken w, 6) ∷ (t, 17) ∷ (is_absent w, 7) ∷ rest
 
-abbrev seek_by : Bool → Bool → Walk → Sought
-seek_by b t w = cond b (Refused BadArgument) (sought_by (look_by t w))
+abbrev seek_by : Bool → Bool → Walk → Result Found Refusal
+seek_by b t w = cond b (Err BadArgument) (sought_by (look_by t w))
 
 -- refused under a number, which isn't 0
-record Refusing (n : Answer) (first : ℕ) : Type 0 where
+record Refusing (n : Refusal) (first : ℕ) : Type 0 where
   some : code_of n ≡ 0 → ⊥
   is : first ≡ code_of n
 
-refusing : {n : Answer} (m : Answer) (first : ℕ) → Refused m ≡ Refused n → (code_of m ≡ 0 → ⊥) → first ≡ code_of m → Refusing n first
-refusing {n} m first e some is =
-    let q : m ≡ n = cc in
-    record { some = λ z. some (ap code_of q ∙ z); is = is ∙ ap code_of q }
+abbrev Refuses : Result Found Refusal → ℕ → Type 0
+Refuses (Ok found) first = Unit
+Refuses (Err n) first = Refusing n first
 
-refused_by : (b t : Bool) (w : Walk) (n : Answer) (rest : List (Bool × ℕ)) → seek_by b t w ≡ Refused n → Refusing n (first_of (front b t w rest))
-refused_by true t w n rest e = refusing BadArgument 5 e (λ z. omega arith) refl
-refused_by false true (At place k) n rest e = refusing InDoubt 17 e (λ z. omega arith) refl
-refused_by false false (At place k) n rest e = let z : ◌≡◌ {A = ℕ} 0 1 = cc in absurd (omega arith)
-refused_by false true Absent n rest e = refusing InDoubt 17 e (λ z. omega arith) refl
-refused_by false false Absent n rest e = refusing NotThere 7 e (λ z. omega arith) refl
-refused_by false t Break n rest e = refusing Broken 6 e (λ z. omega arith) refl
+refusing : (b t : Bool) (w : Walk) (rest : List (Bool × ℕ)) → Refuses (seek_by b t w) (first_of (front b t w rest))
+refusing true t w rest = record { some = λ z. omega arith; is = refl }
+refusing false true (At place k) rest = record { some = λ z. omega arith; is = refl }
+refusing false false (At place k) rest = tt
+refusing false true Absent rest = record { some = λ z. omega arith; is = refl }
+refusing false false Absent rest = record { some = λ z. omega arith; is = refl }
+refusing false t Break rest = record { some = λ z. omega arith; is = refl }
 
-settle_refusing : {A : Type 0} (n : Answer) (first : ℕ) (done : A) (refused : ℕ → A) → Refusing n first → settle first done refused ≡ refused (code_of n)
+refused_by : (b t : Bool) (w : Walk) (n : Refusal) (rest : List (Bool × ℕ)) → seek_by b t w ≡ Err n → Refusing n (first_of (front b t w rest))
+refused_by b t w n rest e = subst (λ (q : Result Found Refusal). Refuses q (first_of (front b t w rest))) e (refusing b t w rest)
+
+settle_refusing : {A : Type 0} (n : Refusal) (first : ℕ) (done : A) (refused : ℕ → A) → Refusing n first → settle first done refused ≡ refused (code_of n)
 settle_refusing n first done refused f = ap (λ (m : ℕ). settle m done refused) f.is ∙ by (code_of n) f.some
   where
     by : (m : ℕ) → (m ≡ 0 → ⊥) → settle m done refused ≡ refused m
@@ -82,21 +83,25 @@ settle_refusing n first done refused f = ap (λ (m : ℕ). settle m done refused
     by (suc m) some = refl
 
 -- the version was found: no line holds
-record Finding (b t : Bool) (w : Walk) (place : Place) (n : ℕ) : Type 0 where
+record Finding (b t : Bool) (w : Walk) (f : Found) : Type 0 where
   inside : b ≡ false
   clear : t ≡ false
-  walk : w ≡ At place n
+  walk : w ≡ At f.place f.looked
 
-found_by : (b t : Bool) (w : Walk) (place : Place) (n : ℕ) → seek_by b t w ≡ Found place n → Finding b t w place n
-found_by true t w place n e = let z : ◌≡◌ {A = ℕ} 0 1 = cc in absurd (omega arith)
-found_by false true (At p k) place n e = let z : ◌≡◌ {A = ℕ} 0 1 = cc in absurd (omega arith)
-found_by false false (At p k) place n e =
-    let q : p ≡ place = cc in
-    let f : k ≡ n = cc in
-    record { inside = refl; clear = refl; walk = ap (λ (x : Place). At x k) q ∙ ap (At place) f }
-found_by false true Absent place n e = let z : ◌≡◌ {A = ℕ} 0 1 = cc in absurd (omega arith)
-found_by false false Absent place n e = let z : ◌≡◌ {A = ℕ} 0 1 = cc in absurd (omega arith)
-found_by false t Break place n e = let z : ◌≡◌ {A = ℕ} 0 1 = cc in absurd (omega arith)
+abbrev Finds : Result Found Refusal → Bool → Bool → Walk → Type 0
+Finds (Ok f) b t w = Finding b t w f
+Finds (Err n) b t w = Unit
+
+finding_by : (b t : Bool) (w : Walk) → Finds (seek_by b t w) b t w
+finding_by true t w = tt
+finding_by false true (At place k) = tt
+finding_by false false (At place k) = record { inside = refl; clear = refl; walk = refl }
+finding_by false true Absent = tt
+finding_by false false Absent = tt
+finding_by false t Break = tt
+
+found_by : (b t : Bool) (w : Walk) (f : Found) → seek_by b t w ≡ Ok f → Finding b t w f
+found_by b t w f e = subst (λ (q : Result Found Refusal). Finds q b t w) e (finding_by b t w)
 
 -- three lines for the numbers 8 to 10 cover all that a slot says
 abbrev saying_of : ℕ → List (Bool × ℕ)
@@ -122,21 +127,21 @@ module _ (d u s : List ℕ) (v : View) (r : ℕ) where
 
   -- ---- a seek
 
-  refused_first : (n : Answer) (rest : List (Bool × ℕ)) → seek_rule d u s v r ≡ Refused n → Refusing n (first_of (reading rest))
+  refused_first : (n : Refusal) (rest : List (Bool × ℕ)) → seek_rule d u s v r ≡ Err n → Refusing n (first_of (reading rest))
   unfolding seek_rule look_rule breaks misses
   refused_first n rest e = refused_by (no_row d r) (doubts d u s v r) (walk_rule d u s v r) n rest e
 
-  pub seek_refused : {A : Type 0} (n : Answer) (rest : List (Bool × ℕ)) (done : A) (refused : ℕ → A)
-      → seek_rule d u s v r ≡ Refused n
+  pub seek_refused : {A : Type 0} (n : Refusal) (rest : List (Bool × ℕ)) (done : A) (refused : ℕ → A)
+      → seek_rule d u s v r ≡ Err n
       → settle (first_of (reading rest)) done refused ≡ refused (code_of n)
   seek_refused n rest done refused e = settle_refusing n (first_of (reading rest)) done refused (refused_first n rest e)
 
-  module _ (place : Place) (n : ℕ) (found : seek_rule d u s v r ≡ Found place n) where
-    finding : Finding (no_row d r) (doubts d u s v r) (walk_rule d u s v r) place n
+  module _ (f : Found) (found : seek_rule d u s v r ≡ Ok f) where
+    finding : Finding (no_row d r) (doubts d u s v r) (walk_rule d u s v r) f
     unfolding seek_rule look_rule
-    finding = found_by (no_row d r) (doubts d u s v r) (walk_rule d u s v r) place n found
+    finding = found_by (no_row d r) (doubts d u s v r) (walk_rule d u s v r) f found
 
-    pub seek_walk : walk_rule d u s v r ≡ At place n
+    pub seek_walk : walk_rule d u s v r ≡ At f.place f.looked
     seek_walk = finding.walk
 
     pub seek_inside : r < rows d
@@ -147,7 +152,7 @@ module _ (d u s : List ℕ) (v : View) (r : ℕ) where
     unfolding breaks misses
     seek_passed rest = rw (finding.inside, finding.clear, finding.walk)
 
-    pub seek_found : (rest : List (Bool × ℕ)) → (first_of (reading rest) ≡ first_of rest) × (walk_rule d u s v r ≡ At place n) × (r < rows d)
+    pub seek_found : (rest : List (Bool × ℕ)) → (first_of (reading rest) ≡ first_of rest) × (walk_rule d u s v r ≡ At f.place f.looked) × (r < rows d)
     seek_found rest = (seek_passed rest, seek_walk, seek_inside)
 
   -- an empty slot has no version
@@ -214,57 +219,42 @@ module _ (d u s : List ℕ) (v : View) (r : ℕ) where
 
   -- ---- as the functions find it: k is how many rows there are
 
-  pub seek_outside : {k : ℕ} → k ≡ rows d → k ≤ r → seek_rule d u s v r ≡ Refused BadArgument
+  pub seek_outside : {k : ℕ} → k ≡ rows d → k ≤ r → Err BadArgument ≡ seek_rule d u s v r
   unfolding seek_rule no_row
   seek_outside all h = rw (le-leb (rows d) r (omega arith))
 
-  module _ {k : ℕ} (all : k ≡ rows d) (h : r < k) where
-    seek_by_lem : seek_rule d u s v r ≡ sought_by (look_rule d u s v r)
+  module _ {k : ℕ} (all : k ≡ rows d) (h : r < k) {w : Result Found Missing} (told : w ≡ look_rule d u s v r) where
+    seek_by_lem : sought_by w ≡ seek_rule d u s v r
     unfolding seek_rule no_row
-    seek_by_lem = rw (lt-leb (rows d) r (omega arith))
+    seek_by_lem = rw (lt-leb (rows d) r (omega arith)) (ap sought_by told)
 
-    pub seek_at : (place : Place) (n : ℕ) {w : Look} → w ≡ look_rule d u s v r → w ≡ Seen place n → Found place n ≡ seek_rule d u s v r
-    seek_at place n told e = sym (seek_by_lem ∙ ap sought_by (sym told ∙ e))
+    pub seek_at : {f : Found} → w ≡ Ok f → Ok f ≡ seek_rule d u s v r
+    seek_at e = ap sought_by (sym e) ∙ seek_by_lem
 
-    -- the walk has no version, as its tag says
-    pub seek_none : (tag : Look → ℕ) → ((place : Place) (n : ℕ) → tag (Seen place n) ≡ 0)
-        → (w : Look) → (tag w ≡ 1) ⊎ ((tag w ≡ 2) ⊎ (tag w ≡ 3))
-        → w ≡ look_rule d u s v r
-        → {a : Answer} → a ≡ refusal_in (sought_by w)
-        → Refused a ≡ seek_rule d u s v r
-    seek_none tag first w some told is = ap Refused is ∙ by w some ∙ ap sought_by told ∙ sym seek_by_lem
-      where
-        by : (w : Look) → (tag w ≡ 1) ⊎ ((tag w ≡ 2) ⊎ (tag w ≡ 3)) → Refused (refusal_in (sought_by w)) ≡ sought_by w
-        by (Seen place n) some =
-            absurd
-            (⊎_elim (λ (q : tag (Seen place n) ≡ 1). omega (arith, first place n))
-            (⊎_elim (λ (q : tag (Seen place n) ≡ 2). omega (arith, first place n)) (λ (q : tag (Seen place n) ≡ 3). omega (arith, first place n)))
-            some)
-        by NoVersion some = refl
-        by Torn some = refl
-        by Doubted some = refl
+    pub seek_none : {m : Missing} {n : Refusal} → w ≡ Err m → n ≡ refusal_of m → Err n ≡ seek_rule d u s v r
+    seek_none e is = ap Err is ∙ ap sought_by (sym e) ∙ seek_by_lem
 
   -- a write of a row that the seek refuses
-  pub write_unsought : {q : Sought} {n : Answer} → q ≡ seek_rule d u s v r → q ≡ Refused n → code_of n ≡ write_refusal d u s v r
+  pub write_unsought : {q : Result Found Refusal} {n : Refusal} → q ≡ seek_rule d u s v r → q ≡ Err n → code_of n ≡ write_refusal d u s v r
   unfolding write_refusal
   write_unsought {q} {n} told e =
       sym (refused_first n (slot_says []) (sym told ∙ e)).is
 
   -- and of one whose version was found: what the slot says
-  pub write_says : {q : Sought} {place : Place} {n : ℕ} {m : Slot} {t : Stamp} {k : ℕ}
+  pub write_says : {q : Result Found Refusal} {f : Found} {m : Slot} {t : Stamp} {k : ℕ}
       → q ≡ seek_rule d u s v r
-      → q ≡ Found place n
+      → q ≡ Ok f
       → m ≡ slot_at r d
       → t ≡ stamp_of m
       → k ≡ conflict_of v s t
       → k ≡ write_refusal d u s v r
   unfolding write_refusal says
-  write_says {place = place} {n = n} told e em et ek =
+  write_says {f = f} told e em et ek =
       let x : ℕ = conflict_of v s (stamp_of (slot_at r d)) in
       ek
       ∙ ap (conflict_of v s) (et ∙ ap stamp_of em)
       ∙ sym (saying x (conflict_said v s (stamp_of (slot_at r d))))
-      ∙ sym (seek_passed place n (sym told ∙ e) (slot_says []))
+      ∙ sym (seek_passed f (sym told ∙ e) (slot_says []))
 
 -- ---- two views that differ in unused places alone
 
@@ -272,7 +262,7 @@ module _ (m l : List ℕ) (front : FrontOf m l) (number statement : ℕ) (d u s 
   pub front_seek : seek_rule d u s (view_of number statement m) r ≡ seek_rule d u s (view_of number statement l) r
   unfolding seek_rule look_rule
   front_seek =
-      ap₂ (λ (t : Bool) (w : Walk). cond (no_row d r) (Refused BadArgument) (sought_by (look_by t w)))
+      ap₂ (λ (t : Bool) (w : Walk). cond (no_row d r) (Err BadArgument) (sought_by (look_by t w)))
       (front_doubts m l front number statement d u s r)
       (front_walk m l front number statement d u s r)
 

@@ -1,21 +1,19 @@
 -- What read, update and delete ask of a row ("01, When the desk says no", 5 to 10, and "02, T-05", 17, whose condition is doubt's). The
 -- conditions stand here once; a call's list of refusals names them. Assumes nothing.
-use Rattle.std.specs.Prelude.{ℕ, Bool, true, false, cond, List, [], ◌∷◌, eqb, leb}
+use Rattle.std.specs.Prelude.{ℕ, Bool, true, false, cond, List, [], ◌∷◌, Result, Ok, Err, eqb, leb}
 use Rattle.ground.specs.Refuse.{first_of}
-use Rattle.answer.specs.declared.Answer.{Answer}
-use Rattle.answer.specs.declared.Answer.TheVariants.{Done, BadArgument, Broken, NotThere, InDoubt}
+use Rattle.answer.specs.declared.Refusal.{Refusal}
+use Rattle.answer.specs.declared.Refusal.TheVariants.{BadArgument}
 use Rattle.kind.specs.Kind.{rows}
 use Rattle.desk.specs.View.{View}
 use Rattle.sight.specs.Conflict.{conflict_of}
 use Rattle.records.specs.Slot.{slot_at}
+use Rattle.chain.specs.declared.Found.{Found}
 use Rattle.chain.specs.declared.Walk.{Walk}
 use Rattle.chain.specs.declared.Walk.TheVariants.{Found as At, Absent, Broken as Break}
 use Rattle.chain.specs.Walk.{stamp_of, walk_rule}
-use Rattle.doubt.specs.declared.Look.{Look}
-use Rattle.doubt.specs.declared.Look.TheVariants.{Found as Seen, Absent as NoVersion, Broken as Torn, Doubted}
-use Rattle.doubt.specs.Doubt.{doubts, look_rule}
-use Rattle.seeking.specs.declared.Sought.{Sought}
-use Rattle.seeking.specs.declared.Sought.TheVariants.{Found, Refused}
+use Rattle.doubt.specs.declared.Missing.{Missing}
+use Rattle.doubt.specs.Doubt.{doubts, look_rule, refusal_of}
 
 -- 5: "row ≥ rows"
 unfoldable pub no_row : List ℕ → ℕ → Bool
@@ -46,19 +44,12 @@ says d s v r n = eqb (conflict_of v s (stamp_of (slot_at r d))) n
 -- ---- as the functions answer
 
 -- what comes of a walk: the version found, or what a walk without one refuses
-abbrev pub sought_by : Look → Sought
-sought_by (Seen place n) = Found place n
-sought_by NoVersion = Refused NotThere
-sought_by Torn = Refused Broken
-sought_by Doubted = Refused InDoubt
+abbrev pub sought_by : Result Found Missing → Result Found Refusal
+sought_by (Ok found) = Ok found
+sought_by (Err missing) = Err (refusal_of missing)
 
--- the refusal alone
-abbrev pub refusal_in : Sought → Answer
-refusal_in (Found place n) = Done
-refusal_in (Refused a) = a
-
-unfoldable pub seek_rule : List ℕ → List ℕ → List ℕ → View → ℕ → Sought
-seek_rule d u s v r = cond (no_row d r) (Refused BadArgument) (sought_by (look_rule d u s v r))
+unfoldable pub seek_rule : List ℕ → List ℕ → List ℕ → View → ℕ → Result Found Refusal
+seek_rule d u s v r = cond (no_row d r) (Err BadArgument) (sought_by (look_rule d u s v r))
 
 -- what may be refused to a session that would write a row, in the order of the table; 17 "stands between 6 and 7"
 unfoldable pub write_refusal : List ℕ → List ℕ → List ℕ → View → ℕ → ℕ

@@ -2,77 +2,49 @@
 // row, the version that the session reads, doubt on the way to it, and for a write what the slot says.
 #![tactic(auto)]
 
-ghost use Rattle.std.specs.Prelude.{◌≡◌, length};
-ghost use Rattle.answer.specs.Code.{code_of};
-ghost use Rattle.kind.specs.Kind.{page_size};
-ghost use Rattle.sight.specs.Sight.{view_of};
-ghost use Rattle.seeking.specs.Seeking.{sought_by, refusal_in, seek_rule, write_refusal};
+ghost use Rattle.std.specs.Prelude.{◌≡◌};
+ghost use Rattle.answer.specs.Code.{number_of};
+ghost use Rattle.sight.specs.Sight.{said_view};
+ghost use Rattle.seeking.specs.Seeking.{seek_rule, write_refusal};
 
-use answer::Answer;
-use chain::Place;
-use doubt::Look;
+use answer::Refusal;
+use chain::Found;
+use sight::{StatusPage, View};
 
-// The version that the session reads, with the number of versions looked at, or the refusal.
-#[derive(Drop)]
-pub enum Sought {
-    Found(Place, usize),
-    Refused(Answer),
-}
-
-// What a walk without a version refuses: "broken chain met before a version is found", a version in doubt, "no version there".
-fn none_found(w: Look) -> Answer
-    ensures { result ≡ refusal_in (sought_by w) }
-{
-    match w {
-        Look::Found(_, _) => Answer::Done,
-        Look::Absent => Answer::NotThere,
-        Look::Broken => Answer::Broken,
-        Look::Doubted => Answer::InDoubt,
-    }
-}
-
-// Finds the version of a row that the session reads.
-pub fn seek<'a>(
-    data: &'a [u8],
-    undo: &'a [u8],
-    status: &'a [u8],
-    number: u64,
-    statement: u32,
-    list: &'a [u32],
+// Finds the version of a row that the session reads: the number of versions looked at is told with it.
+#[tactic(auto, using(crate::proofs::Seekings::seek_outside, crate::proofs::Seekings::seek_at, crate::proofs::Seekings::seek_none))]
+pub fn seek(
+    data: &[u8],
+    undo: &[u8],
+    status: StatusPage,
+    view: View,
     row: usize,
-) -> Sought
-    requires { length status.now ≡ page_size }
-    ensures { result ≡ seek_rule «data».now undo.now status.now (view_of number statement list.now) row }
+) -> Result<Found, Refusal>
+    ensures { result ≡ seek_rule «data».now undo.now status.entry.bytes.now (said_view view.entry) row }
 {
     if row >= kind::rows(data) {
-        return Sought::Refused(Answer::BadArgument);
+        return Err(Refusal::BadArgument);
     }
-    let w = doubt::search(data, undo, status, number, statement, list, row);
-    let Look::Found(place, looked) = w else {
-        return Sought::Refused(none_found(w));
+    // The form that 01 names for a walk without a version.
+    let walk = doubt::search(data, undo, status, view, row);
+    let Ok(found) = walk else {
+        return Ok(walk?);
     };
-    Sought::Found(place, looked)
+    Ok(found)
 }
 
-// Whether the session may write a row: done, or the first of 5, 6, 17 and 7 to 10 that holds. "Once 7 is passed, look at the slot."
-pub fn may_write<'a>(
-    data: &'a [u8],
-    undo: &'a [u8],
-    status: &'a [u8],
-    number: u64,
-    statement: u32,
-    list: &'a [u32],
+// Whether the session may write a row, or the first of 5, 6, 17 and 7 to 10 that holds. "Once 7 is passed, look at the slot."
+#[tactic(auto, using(crate::proofs::Seekings::seek_inside, crate::proofs::Seekings::write_unsought, crate::proofs::Seekings::write_says))]
+pub fn may_write(
+    data: &[u8],
+    undo: &[u8],
+    status: StatusPage,
+    view: View,
     row: usize,
-) -> Answer
-    requires { length status.now ≡ page_size }
-    ensures { code_of result ≡ write_refusal «data».now undo.now status.now (view_of number statement list.now) row }
+) -> Result<(), Refusal>
+    ensures { number_of result ≡ write_refusal «data».now undo.now status.entry.bytes.now (said_view view.entry) row }
 {
-    let sought = seek(data, undo, status, number, statement, list, row);
-    match sought {
-        Sought::Refused(answer) => answer,
-        Sought::Found(_, _) => {
-            let m = records::slot::read_slot(data, row);
-            conflict::conflict_of(number, statement, list, status, chain::stamp_of(m))
-        }
-    }
+    seek(data, undo, status, view, row)?;
+    let m = records::slot::read_slot(data, row);
+    conflict::conflict_of(view, status, chain::stamp_of(m))
 }

@@ -1,19 +1,23 @@
 -- What the rules of sight say, case by case: who is committed, listed, seen and known, and when a version is there.
 -- Assumes nothing.
-use mathlib.Core.Path.{◌≡◌, refl}
-use mathlib.Core.Bool.{Bool, true, false, not, ◌&&◌, cond, and-true, and-false, or-false}
+use mathlib.Core.Path.{◌≡◌, refl, sym, ◌∙◌}
+use mathlib.Core.Bool.{Bool, true, false, not, ◌&&◌, cond, and-true, and-false, or-false, true≢false}
 use mathlib.Core.Logic.{⊎_elim}
 use mathlib.Core.List.{List}
 use Prim.Native.Nat.{ℕ, ◌≤◌, ◌<◌}
 use native.Mathlib.Omega.{arith}
 use lib.Dec.{eqb, leb, ltb}
 use lib.ListN.{get_or, length}
+use denote.Enum.Bare.{sameb}
 use borrow.Author.Tests.{eqb-true, eqb-false, eq-eqb, ne_eqb, leb-true, le-leb, lt-leb, ltb-true, lt-ltb, le-ltb, not-true}
+use Rattle.std.specs.List.{list_any}
+use Rattle.std.proofs.lemmas.List.Recursion.{or_is}
 use Rattle.ground.specs.Range.{first_from}
 use Rattle.ground.proofs.Ranges.{lt_or_le, and_true_left, and_true_right, first_passes, first_before}
 use Rattle.desk.specs.View.{View}
 use Rattle.status.specs.declared.Status.{Status}
 use Rattle.status.specs.declared.Status.TheVariants.{InWork, Committed, Withdrawn, Reserved}
+use Rattle.status.specs.contracts.Status.{the_type}
 use Rattle.status.specs.Status.{last_number, status_at}
 use Rattle.sight.specs.declared.Stamp.{Stamp}
 use Rattle.sight.specs.Sight.{standing, is_committed, committed, listed, sees, earlier, known, there}
@@ -25,6 +29,13 @@ committed_is InWork e = let z : ◌≡◌ {A = ℕ} 0 1 = cc in absurd (omega ar
 committed_is Committed e = refl
 committed_is Withdrawn e = let z : ◌≡◌ {A = ℕ} 0 1 = cc in absurd (omega arith)
 committed_is Reserved e = let z : ◌≡◌ {A = ℕ} 0 1 = cc in absurd (omega arith)
+
+-- as the derived equality tells it
+pub same_committed : (v : Status) → sameb the_type v Committed ≡ is_committed v
+same_committed InWork = refl
+same_committed Committed = refl
+same_committed Withdrawn = refl
+same_committed Reserved = refl
 
 pub committed_zero : (s : List ℕ) → committed 0 s ≡ false
 unfolding committed standing
@@ -77,6 +88,16 @@ module _ (x : ℕ) (l : List ℕ) where
       passed : length l ≤ first_from (λ (i : ℕ). eqb (get_or l i 0) x) 0 (length l) → ⊥
       passed p =
           eqb-false (get_or l k 0) x (first_before (λ (i : ℕ). eqb (get_or l i 0) x) 0 (length l) k (omega arith) (omega arith)) e
+
+  -- as an iterator asks each of them
+  pub any_listed : list_any (λ (m : ℕ). eqb m x) l ≡ listed x l
+  any_listed = sym (or_is (list_any (λ (m : ℕ). eqb m x)) (λ (m : ℕ). eqb m x) refl (λ _ _. refl) l 0 (listed x l) somewhere nowhere)
+    where
+      somewhere : listed x l ≡ true → (i : ℕ) × (i < length l) × (eqb (get_or l i 0) x ≡ true)
+      somewhere e = let f = listed_at e in (f.0, f.1, eq-eqb (get_or l f.0 0) x f.2)
+
+      nowhere : listed x l ≡ false → (i : ℕ) → i < length l → eqb (get_or l i 0) x ≡ false
+      nowhere e i h = ne_eqb (get_or l i 0) x (λ f. true≢false (sym (listed_intro i h f) ∙ e))
 
 -- ---- seen
 

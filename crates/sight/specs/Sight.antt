@@ -6,10 +6,15 @@ use Rattle.status.specs.declared.Status.{Status}
 use Rattle.status.specs.declared.Status.TheVariants.{InWork, Committed, Withdrawn, Reserved}
 use Rattle.status.specs.Status.{last_number, status_at}
 use Rattle.sight.specs.declared.Stamp.{Stamp}
+use Rattle.sight.specs.declared.View.{View as Lent}
 
 -- a view by its parts
 abbrev pub view_of : ℕ → ℕ → List ℕ → View
 view_of number statement list = record { number = number; statement = statement; list = list }
+
+-- the view that the code is lent
+abbrev pub said_view : Lent → View
+said_view v = view_of v.number v.statement v.list.now
 
 -- the status of any number, in four ways: "Number 0 and numbers above 32,575 are never committed"
 unfoldable pub standing : ℕ → List ℕ → Status

@@ -4,13 +4,13 @@
 
 ghost use Rattle.std.specs.Prelude.{◌≡◌, length};
 ghost use Rattle.kind.specs.Kind.{page_size};
-ghost use Rattle.sight.specs.Sight.{view_of, standing, committed, listed, sees, known, there};
+ghost use Rattle.sight.specs.Sight.{said_view, standing, committed, listed, sees, known, there};
 
 use desk::Desk;
 use status::{Status, status_at};
 
 // What sight looks at: who made a version and who ended it, each with its statement.
-#[derive(Drop)]
+#[derive(Clone, Copy)]
 pub struct Stamp {
     pub create: u64,
     pub expire: u64,
@@ -18,82 +18,76 @@ pub struct Stamp {
     pub expire_cmd: u32,
 }
 
-// The status of any number; 0 and numbers above 32,575, of which the page says nothing, count as in work.
-pub fn standing_of(status: &[u8], x: u64) -> Status
-    requires { length status.now ≡ page_size }
-    ensures { result ≡ standing x status.now }
-{
-    if (Desk::FIRST_NUMBER as u64 <= x) & (x <= Status::LAST_NUMBER) {
-        status_at(status, x as usize)
-    } else {
-        Status::InWork
-    }
+// What a session sees by: its number, its statement, and the numbers open when it began, lent as far as they are used, so that no search
+// meets an unused place.
+#[derive(Clone, Copy)]
+pub struct View<'a> {
+    pub number: u64,
+    pub statement: u32,
+    pub list: &'a [u32],
 }
 
-// Whether x "has status 01".
-pub fn is_committed(status: &[u8], x: u64) -> bool
-    requires { length status.now ≡ page_size }
-    ensures { result ≡ committed x status.now }
-{
-    match standing_of(status, x) {
-        Status::InWork => false,
-        Status::Committed => true,
-        Status::Withdrawn => false,
-        Status::Reserved => false,
-    }
+// The status page, lent whole.
+#[derive(Clone, Copy)]
+pub struct StatusPage<'a> {
+    pub bytes: &'a [u8],
+    pub ghost whole: { length bytes.now ≡ page_size },
 }
 
-// Whether x is among the numbers open when the session began. The list is lent as far as it is used, so that no search meets an unused
-// place.
-fn is_listed(list: &[u32], x: u64) -> bool
-    ensures { result ≡ listed x list.now }
-{
-    let mut i = 0;
-    while i < list.len() {
-        if columns::wide(list[i]) == x {
-            return true;
+impl<'a> StatusPage<'a> {
+    // The status of any number; 0 and numbers above 32,575, of which the page says nothing, count as in work.
+    #[tactic(auto, unfolding(crate::specs::Sight::standing))]
+    pub fn standing_of(self, x: u64) -> Status
+        ensures { result ≡ standing x self.entry.bytes.now }
+    {
+        if (Desk::FIRST_NUMBER as u64 <= x) & (x <= Status::LAST_NUMBER) {
+            status_at(self.bytes, x as usize)
+        } else {
+            Status::InWork
         }
-        i += 1;
     }
-    false
+
+    // Whether x "has status 01".
+    #[tactic(auto, using(crate::proofs::Sights::same_committed), unfolding(crate::specs::Sight::committed))]
+    pub fn is_committed(self, x: u64) -> bool
+        ensures { result ≡ committed x self.entry.bytes.now }
+    {
+        self.standing_of(x) == Status::Committed
+    }
 }
 
-// "S sees X when X is not 0, is below S's number, is not in S's list and has status 01": 0 has no status, and the list is
-// searched last.
-pub fn does_see<'a>(number: u64, list: &'a [u32], status: &'a [u8], x: u64) -> bool
-    requires { length status.now ≡ page_size }
-    ensures { result ≡ sees number list.now status.now x }
-{
-    x < number && (is_committed(status, x) && !is_listed(list, x))
-}
+impl<'a> View<'a> {
+    // Whether x is among the numbers open when the session began.
+    fn lists(self, x: u64) -> bool
+        ensures { result ≡ listed x self.entry.list.now }
+    {
+        self.list.iter().any(|member| *member as u64 == x)
+    }
 
-// Whether x, at statement cmd, "is S in an earlier statement or is seen".
-fn is_known<'a>(
-    number: u64,
-    statement: u32,
-    list: &'a [u32],
-    status: &'a [u8],
-    x: u64,
-    cmd: u32,
-) -> bool
-    requires { length status.now ≡ page_size }
-    ensures { result ≡ known (view_of number statement list.now) status.now x cmd }
-{
-    (x == number) & (cmd < statement) || does_see(number, list, status, x)
-}
+    // "S sees X when X is not 0, is below S's number, is not in S's list and has status 01": 0 has no status, and the list is
+    // searched last.
+    #[tactic(auto, using(crate::proofs::Sights::sees_far, crate::proofs::Sights::sees_open, crate::proofs::Sights::sees_rest))]
+    pub fn sees(self, status: StatusPage, x: u64) -> bool
+        ensures { result ≡ sees self.entry.number self.entry.list.now status.entry.bytes.now x }
+    {
+        x < self.number && status.is_committed(x) && !self.lists(x)
+    }
 
-// "A version is there for S when its creator is S in an earlier statement or is seen, and its expirer is neither S in an earlier
-// statement nor seen (expire 0: none)."
-pub fn is_there<'a>(
-    number: u64,
-    statement: u32,
-    list: &'a [u32],
-    status: &'a [u8],
-    t: Stamp,
-) -> bool
-    requires { length status.now ≡ page_size }
-    ensures { result ≡ there (view_of number statement list.now) status.now t }
-{
-    is_known(number, statement, list, status, t.create, t.cmd)
-        && (t.expire == 0 || !is_known(number, statement, list, status, t.expire, t.expire_cmd))
+    // Whether x, at statement cmd, "is S in an earlier statement or is seen".
+    #[tactic(auto, unfolding(crate::specs::Sight::known, crate::specs::Sight::earlier))]
+    fn knows(self, status: StatusPage, x: u64, cmd: u32) -> bool
+        ensures { result ≡ known (said_view self.entry) status.entry.bytes.now x cmd }
+    {
+        (x == self.number) & (cmd < self.statement) || self.sees(status, x)
+    }
+
+    // "A version is there for S when its creator is S in an earlier statement or is seen, and its expirer is neither S in an earlier
+    // statement nor seen (expire 0: none)."
+    #[tactic(auto, using(crate::proofs::Sights::there_unknown, crate::proofs::Sights::there_unexpired, crate::proofs::Sights::there_expired))]
+    pub fn is_there(self, status: StatusPage, t: Stamp) -> bool
+        ensures { result ≡ there (said_view self.entry) status.entry.bytes.now t }
+    {
+        self.knows(status, t.create, t.cmd)
+            && (t.expire == 0 || !self.knows(status, t.expire, t.expire_cmd))
+    }
 }

@@ -71,21 +71,6 @@ marked_words w w' long long' {n} {m} x same left = by (eqb m 10) left ∙ ap (λ
     by true e = sym (words_back w' long')
     by false e = words_once w' w long' long e
 
--- ---- what is reported, in words that are lent
-
-pub one_put : (out : List ℕ) (a : ℕ) → length out ≡ 1 → set out 0 a ≡ a ∷ []
-one_put [] a e = absurd (omega arith)
-one_put (x ∷ []) a e = refl
-one_put (x ∷ y ∷ l) a e = absurd (omega arith)
-
-pub two_put : (out : List ℕ) (a b : ℕ) → length out ≡ 2 → set (set out 0 a) 1 b ≡ a ∷ b ∷ []
-two_put [] a b e = absurd (omega arith)
-two_put (x ∷ out) a b e = let rest : length out ≡ 1 = omega arith in ap (λ (l : List ℕ). a ∷ l) (one_put out b rest)
-
-pub three_put : (out : List ℕ) (a b c : ℕ) → length out ≡ 3 → set (set (set out 0 a) 1 b) 2 c ≡ a ∷ b ∷ c ∷ []
-three_put [] a b c e = absurd (omega arith)
-three_put (x ∷ out) a b c e = let rest : length out ≡ 2 = omega arith in ap (λ (l : List ℕ). a ∷ l) (two_put out b c rest)
-
 -- ---- where a body lies: `at` is the place of its record, as the code found it
 
 module _ {place : Place} (d u : List ℕ) where

@@ -125,12 +125,6 @@ status_of_bits_of Committed = refl
 status_of_bits_of Withdrawn = refl
 status_of_bits_of Reserved = refl
 
-pub status_of_rest : (n : ℕ) → 2 < n → status_of n ≡ Reserved
-status_of_rest zero h = absurd (omega arith)
-status_of_rest (suc zero) h = absurd (omega arith)
-status_of_rest (suc (suc zero)) h = absurd (omega arith)
-status_of_rest (suc (suc (suc n))) h = refl
-
 -- ---- the status of a number in a page
 
 -- "byte 48 + n/4"

@@ -151,11 +151,19 @@ freed_step r fuel ptr u u' e m to f =
 
 -- its ends: no version is left where the pointer leads to none, and where no entry is left to pass
 module _ (u : List ℕ) (r : ℕ) (ps : List ℕ) (ptr : ℕ) where
-  pub versions_end : (fuel : ℕ) → link_of u r ptr ≡ End → (chain_from u r fuel ps ptr).versions ≡ []
+  versions_end : (fuel : ℕ) → link_of u r ptr ≡ End → (chain_from u r fuel ps ptr).versions ≡ []
   versions_end fuel h = ap (λ (c : Chain). c.versions) (chain_from_end u r fuel ps ptr h)
 
-  pub versions_break : (fuel : ℕ) → link_of u r ptr ≡ Break → (chain_from u r fuel ps ptr).versions ≡ []
+  versions_break : (fuel : ℕ) → link_of u r ptr ≡ Break → (chain_from u r fuel ps ptr).versions ≡ []
   versions_break fuel h = ap (λ (c : Chain). c.versions) (chain_from_break u r fuel ps ptr h)
+
+  pub versions_none : {l : Link} (fuel : ℕ) → l ≡ link_of u r ptr → ((e : ℕ) (m : Entry) → l ≡ To e m → ⊥) → (chain_from u r fuel ps ptr).versions ≡ []
+  versions_none {l} fuel is away = by l is away
+    where
+      by : (l : Link) → l ≡ link_of u r ptr → ((e : ℕ) (m : Entry) → l ≡ To e m → ⊥) → (chain_from u r fuel ps ptr).versions ≡ []
+      by End is away = versions_end fuel (sym is)
+      by Break is away = versions_break fuel (sym is)
+      by (To e m) is away = absurd (away e m refl)
 
   pub versions_out : (chain_from u r zero ps ptr).versions ≡ []
   versions_out = on (link_of u r ptr) refl

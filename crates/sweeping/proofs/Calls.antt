@@ -1,12 +1,12 @@
 -- The rule of sweep, case by case. Assumes nothing.
-use mathlib.Core.Path.{◌≡◌, refl, sym, ap, ◌∙◌}
-use mathlib.Core.Bool.{Bool, true, false, not, cond}
+use mathlib.Core.Path.{◌≡◌, sym, ap, ◌∙◌}
+use mathlib.Core.Bool.{true, false, not}
 use mathlib.Core.List.{List}
-use Prim.Native.Nat.{ℕ, ◌+◌, ◌-◌, ◌≤◌, ◌<◌}
+use Prim.Native.Nat.{ℕ, ◌+◌, ◌-◌, ◌≤◌, ◌<◌, min}
 use native.Mathlib.Omega.{arith}
 use lib.ListN.{length}
 use lib.Dec.{ltb}
-use borrow.Author.Tests.{lt-ltb, le-ltb, ltb-true, ltb-false}
+use borrow.Author.Tests.{lt-ltb, le-ltb, ltb-false}
 use Rattle.ground.proofs.Refusals.{first_of_none}
 use Rattle.desk.specs.declared.Desk.{Desk}
 use Rattle.desk.specs.Sound.{sound}
@@ -17,25 +17,15 @@ use Rattle.strands.specs.Strands.{RowsIn}
 use Rattle.sweeping.specs.Sweeping.{treated, all_whole, swept_from, removed_from, held_from, sweep_refusal, swept, sweep_rule}
 use Rattle.sweeping.proofs.Treats.{ready, held_removed}
 
--- "treats min(quota, rows left) of them"; k is how many rows there are
+-- "treats min(quota, rows left) of them"
 module _ (d : List ℕ) (first quota : ℕ) where
-  pub treats_quota : {k : ℕ} → k ≡ rows d → quota < k - first → quota ≡ treated d first quota
+  pub treats : {n k : ℕ} → k ≡ rows d → n ≡ min quota (k - first) → n ≡ treated d first quota
   unfolding treated
-  treats_quota all h = rw (lt-ltb quota (rows d - first) (omega arith))
+  treats all is = is ∙ ap (λ (k : ℕ). min quota (k - first)) all
 
   pub treats_few : first ≤ rows d → first + treated d first quota ≤ rows d
   unfolding treated
-  treats_few h = by (ltb quota (rows d - first)) refl
-    where
-      by : (t : Bool) → ltb quota (rows d - first) ≡ t → first + cond t quota (rows d - first) ≤ rows d
-      by true k = let less : quota < rows d - first = ltb-true quota (rows d - first) k in omega arith
-      by false k = omega arith
-
-  pub treats_rest : {k : ℕ} → k ≡ rows d → k - first ≤ quota → k - first ≡ treated d first quota
-  unfolding treated
-  treats_rest {k} all h =
-      let rest : k - first ≡ rows d - first = omega arith in
-      rw (le-ltb quota (rows d - first) (omega arith)) rest
+  treats_few h = omega arith
 
 -- the rows treated are rows of the area, where nothing is refused
 pub treats_inside : (a : Areas) (desk : Desk) (first quota : ℕ) → sweep_refusal a desk first quota ≡ 0

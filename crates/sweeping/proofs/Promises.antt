@@ -1,19 +1,17 @@
 -- What the contract of sweep promises ("01, Writes, withdrawal, sweep", "01, When the desk says no"). Assumes nothing.
-use mathlib.Core.Path.{◌≡◌, refl, ap}
+use mathlib.Core.Path.{◌≡◌, refl, sym, ap, ◌∙◌}
 use mathlib.Core.Logic.{◌⊎◌}
-use mathlib.Core.Bool.{Bool, true, false, cond}
 use Prim.Native.Nat.{ℕ, ◌+◌, ◌-◌, ◌≤◌, ◌<◌}
 use native.Mathlib.Omega.{arith}
-use lib.Dec.{ltb}
-use borrow.Author.Tests.{ltb-false}
+use Rattle.std.specs.Prelude.{Result, Ok}
 use Rattle.ground.specs.Does.{Does}
 use Rattle.ground.proofs.Once.{once}
 use Rattle.ground.proofs.Refusals.{settled}
-use Rattle.answer.proofs.Codes.{code_of_injective}
+use Rattle.answer.specs.declared.Refusal.{Refusal}
+use Rattle.answer.proofs.Codes.{answered_once}
 use Rattle.little.specs.Little.{Bytes}
 use Rattle.desk.specs.declared.Desk.{Desk}
 use Rattle.desk.specs.Turns.{mark}
-use Rattle.kind.specs.Kind.{rows}
 use Rattle.kind.specs.Areas.{Areas, areas, both}
 use Rattle.strands.specs.Strands.{Same}
 use Rattle.strands.proofs.Rows.{rows_others}
@@ -25,7 +23,7 @@ use Rattle.sweeping.proofs.Calls.{treats_inside}
 
 module _ (a : Areas) (d : Desk) (first quota : ℕ) where
   -- no second result meets the contract
-  pub sweep_once : (r r' : Swept) (x x' : Areas)
+  pub sweep_once : (r r' : Result Swept Refusal) (x x' : Areas)
       → Does (sweep_rule a d first quota) (said_swept r) x
       → Does (sweep_rule a d first quota) (said_swept r') x'
       → (r ≡ r') × (x ≡ x')
@@ -33,10 +31,12 @@ module _ (a : Areas) (d : Desk) (first quota : ℕ) where
     where
       same : said_swept r ≡ said_swept r' → r ≡ r'
       same e =
-          let b : r.answer ≡ r'.answer = code_of_injective r.answer r'.answer (ap (λ (n : ℕ × ℕ × ℕ). n.0) e) in
-          let n : r.next ≡ r'.next = ap (λ (n : ℕ × ℕ × ℕ). n.1) e in
-          let k : r.removed ≡ r'.removed = ap (λ (n : ℕ × ℕ × ℕ). n.2) e in
-          λ i. record { answer = b i; next = n i; removed = k i }
+          answered_once r r' (ap (λ (n : ℕ × ℕ × ℕ). n.0) e)
+          (λ y y' is is'.
+          let all : said_swept (Ok y) ≡ said_swept (Ok y') = ap said_swept (sym is) ∙ e ∙ ap said_swept is' in
+          let n : y.next ≡ y'.next = ap (λ (n : ℕ × ℕ × ℕ). n.1) all in
+          let k : y.removed ≡ y'.removed = ap (λ (n : ℕ × ℕ × ℕ). n.2) all in
+          λ i. record { next = n i; removed = k i })
 
   -- how many rows are treated, and what is answered and left where nothing is refused
   abbrev n : ℕ
@@ -78,8 +78,4 @@ module _ (a : Areas) (d : Desk) (first quota : ℕ) where
   -- "treats min(quota, rows left) of them": no more than asked, and no row outside the area
   pub sweep_few : n ≤ quota
   unfolding treated
-  sweep_few = by (ltb quota (rows a.«data» - first)) refl
-    where
-      by : (b : Bool) → ltb quota (rows a.«data» - first) ≡ b → cond b quota (rows a.«data» - first) ≤ quota
-      by true k = omega arith
-      by false k = ltb-false quota (rows a.«data» - first) k
+  sweep_few = omega arith

@@ -2,13 +2,13 @@
 -- rule from the start, and what goes is what the rows held before less what they hold after. Assumes nothing.
 use mathlib.Core.Path.{◌≡◌, refl, sym, ap, subst, ◌∙◌}
 use mathlib.Core.Logic.{inl}
-use mathlib.Core.Bool.{Bool, true, false}
+use mathlib.Core.Bool.{true}
 use mathlib.Core.List.{List, [], ◌∷◌}
 use Prim.Native.Nat.{ℕ, zero, suc, ◌+◌, ◌-◌, ◌*◌, ◌/◌, ◌≤◌, ◌<◌}
 use native.Mathlib.Nat.{zero-add}
 use native.Mathlib.Omega.{arith}
 use lib.ListN.{length, get_or}
-use Rattle.ground.proofs.Ranges.{all_more, all_at, all_fails}
+use Rattle.ground.proofs.Ranges.{all_at}
 use Rattle.little.specs.Little.{Bytes}
 use Rattle.kind.specs.Kind.{rows}
 use Rattle.kind.specs.Areas.{Both, both}
@@ -103,7 +103,7 @@ module _ (m : ℕ) (s : List ℕ) where
       sum : (a b g x y y' z z' : ℕ) → a ≡ g + x → y ≡ b → y ≡ z + z' → y' ≡ x → a + b ≡ g + z + (y' + z')
       sum a b g x y y' z z' e f k l = omega arith
 
-  -- ---- the loop: i of the n rows from first on are treated, and `removed` versions are gone
+  -- ---- the loop over the n rows from `first` on, which stands at row r, and `removed` versions are gone
 
   -- of which k are left from r on
   pub record At (first n : ℕ) (p₀ : Both) (r k : ℕ) (p : Both) (removed : ℕ) : Type 0 where
@@ -112,82 +112,55 @@ module _ (m : ℕ) (s : List ℕ) where
     pub rest : Ready r k p
 
   abbrev pub Upto : ℕ → ℕ → Both → Both → ℕ → ℕ → Type 0
-  Upto first n p₀ p i removed = At first n p₀ (first + i) (n - i) p removed
+  Upto first n p₀ p r removed = At first n p₀ r (first + n - r) p removed
 
   module _ (first n : ℕ) (p₀ : Both) where
-    pub upto_start : Ready first n p₀ → Upto first n p₀ p₀ 0 0
+    pub upto_start : Ready first n p₀ → Upto first n p₀ p₀ first 0
     upto_start h =
-        let row : first + 0 ≡ first = omega arith in
-        let all : n - 0 ≡ n = omega arith in
+        let all : first + n - first ≡ n = omega arith in
         record {
-          leaves = ap (λ (r : ℕ). swept_from m s r (n - 0) p₀) row ∙ ap (λ (k : ℕ). swept_from m s first k p₀) all;
-          counts =
-              zero-add (removed_from m s (first + 0) (n - 0) p₀)
-              ∙ ap (λ (r : ℕ). removed_from m s r (n - 0) p₀) row
-              ∙ ap (λ (k : ℕ). removed_from m s first k p₀) all;
-          rest = subst (λ (r : ℕ). Ready r (n - 0) p₀) (sym row) (subst (λ (k : ℕ). Ready first k p₀) (sym all) h);
+          leaves = ap (λ (k : ℕ). swept_from m s first k p₀) all;
+          counts = zero-add (removed_from m s first (first + n - first) p₀) ∙ ap (λ (k : ℕ). removed_from m s first k p₀) all;
+          rest = subst (λ (k : ℕ). Ready first k p₀) (sym all) h;
         }
 
-    module _ (p : Both) (i removed : ℕ) (h : Upto first n p₀ p i removed) where
+    module _ (p : Both) (r removed : ℕ) (h : Upto first n p₀ p r removed) where
       -- the next row has no break
-      pub upto_whole : i < n → (chain p (first + i)).whole ≡ true
-      upto_whole less = h.rest.whole (first + i) (omega arith) (omega arith)
+      pub upto_whole : r < first + n → (chain p r).whole ≡ true
+      upto_whole less = h.rest.whole r (omega arith) (omega arith)
 
-      pub upto_next : {k : ℕ} {p' : Both} → i < n → k ≡ gone_row m s (first + i) p → p' ≡ swept_row m s (first + i) p
-          → Upto first n p₀ p' (i + 1) (removed + k)
+      pub upto_next : {k : ℕ} {p' : Both} → r < first + n → k ≡ gone_row m s r p → p' ≡ swept_row m s r p
+          → Upto first n p₀ p' (r + 1) (removed + k)
       unfolding swept_from removed_from
-      upto_next {k} {p'} less gone swept = rw (gone, swept) (step (n - (i + 1)) (omega arith) (first + (i + 1)) (omega arith))
+      upto_next {k} {p'} less gone swept = rw (gone, swept) (step (first + n - (r + 1)) (omega arith))
         where
           next : Both
-          next = swept_row m s (first + i) p
+          next = swept_row m s r p
 
-          ready_at : (j : ℕ) → n - i ≡ j → Ready (first + i) j p
-          ready_at j is = subst (λ (x : ℕ). Ready (first + i) x p) is h.rest
+          counted : (g x total : ℕ) → removed + (g + x) ≡ total → removed + g + x ≡ total
+          counted g x total e = omega arith
 
-          leaves_at : (j : ℕ) → n - i ≡ j → swept_from m s (first + i) j p ≡ swept_from m s first n p₀
-          leaves_at j is = ap (λ (x : ℕ). swept_from m s (first + i) x p) (sym is) ∙ h.leaves
-
-          counts_at : (j : ℕ) → n - i ≡ j → removed + removed_from m s (first + i) j p ≡ removed_from m s first n p₀
-          counts_at j is = ap (λ (x : ℕ). removed + removed_from m s (first + i) x p) (sym is) ∙ h.counts
-
-          counted : (g x y total : ℕ) → removed + (g + x) ≡ total → y ≡ x → removed + g + y ≡ total
-          counted g x y total e f = omega arith
-
-          step : (j : ℕ) → n - i ≡ suc j → (r : ℕ) → first + i + 1 ≡ r → At first n p₀ r j next (removed + gone_row m s (first + i) p)
-          step j is r at =
+          step : (j : ℕ) → first + n - r ≡ suc j → At first n p₀ (r + 1) j next (removed + gone_row m s r p)
+          step j is =
               record {
-                leaves = ap (λ (x : ℕ). swept_from m s x j next) (sym at) ∙ leaves_at (suc j) is;
+                leaves = ap (λ (x : ℕ). swept_from m s r x p) (sym is) ∙ h.leaves;
                 counts =
-                    counted (gone_row m s (first + i) p) (removed_from m s (first + i + 1) j next) (removed_from m s r j next) (removed_from m s first n p₀)
-                    (counts_at (suc j) is)
-                    (ap (λ (x : ℕ). removed_from m s x j next) (sym at));
-                rest = subst (λ (x : ℕ). Ready x j next) at (ready_next (first + i) j p (ready_at (suc j) is));
+                    counted (gone_row m s r p) (removed_from m s (r + 1) j next) (removed_from m s first n p₀)
+                    (ap (λ (x : ℕ). removed + removed_from m s r x p) (sym is) ∙ h.counts);
+                rest = ready_next r j p (subst (λ (x : ℕ). Ready r x p) is h.rest);
               }
 
       abbrev Done : Type 0
       Done = (removed ≡ removed_from m s first n p₀) × (p ≡ swept_from m s first n p₀)
 
-      pub upto_end : n ≤ i → Done
+      pub upto_end : first + n ≤ r → Done
       unfolding swept_from removed_from
       upto_end less =
-          let none : n - i ≡ 0 = omega arith in
-          let rest : removed_from m s (first + i) (n - i) p ≡ 0 = ap (λ (k : ℕ). removed_from m s (first + i) k p) none in
-          (omega (arith, h.counts), ap (λ (k : ℕ). swept_from m s (first + i) k p) (sym none) ∙ h.leaves)
+          let none : first + n - r ≡ 0 = omega arith in
+          let rest : removed_from m s r (first + n - r) p ≡ 0 = ap (λ (k : ℕ). removed_from m s r k p) none in
+          (omega (arith, h.counts), ap (λ (k : ℕ). swept_from m s r k p) (sym none) ∙ h.leaves)
 
 -- ---- as the code finds it
-
--- rows looked at one after the other
-module _ {b : Bool} (d u : List ℕ) (first n i : ℕ) (saw : b ≡ (chain_of d u (first + i)).whole) where
-  pub whole_more : all_whole d u first i ≡ true → b ≡ true → all_whole d u first (i + 1) ≡ true
-  unfolding all_whole
-  whole_more h k = all_more (λ (j : ℕ). (chain_of d u (first + j)).whole) i h (sym saw ∙ k)
-
-  pub whole_fails : i < n → b ≡ false → false ≡ all_whole d u first n
-  unfolding all_whole
-  whole_fails less k = sym (all_fails (λ (j : ℕ). (chain_of d u (first + j)).whole) n i less (sym saw ∙ k))
-
-pub whole_all : (d u : List ℕ) (first n i : ℕ) → i ≤ n → n ≤ i → all_whole d u first i ≡ true → true ≡ all_whole d u first n
-whole_all d u first n i few all h = let is : i ≡ n = omega arith in sym (ap (all_whole d u first) (sym is) ∙ h)
 
 -- of one row no more versions go than there are entries, and one
 pub gone_few : {k : ℕ} (m : ℕ) (s d u : List ℕ) (r : ℕ) → k ≡ gone_row m s r (both d u) → length u / 8192 ≤ 64 → k ≤ 6465

@@ -1,9 +1,10 @@
 -- The rule of sweep: what it answers, and what it leaves in the areas ("01, Writes, withdrawal, sweep", "01, When the desk says no").
 -- Assumes nothing.
-use Rattle.std.specs.Prelude.{ℕ, zero, suc, ◌+◌, ◌-◌, Bool, not, cond, List, [], ◌∷◌, length, ltb}
+use Rattle.std.specs.Prelude.{ℕ, zero, suc, ◌+◌, ◌-◌, Bool, not, List, [], ◌∷◌, length, ltb, min, Result, Ok, Err}
 use Rattle.ground.specs.Refuse.{first_of, settle}
 use Rattle.ground.specs.Range.{all_below}
-use Rattle.answer.specs.Code.{code_of}
+use Rattle.answer.specs.declared.Refusal.{Refusal}
+use Rattle.answer.specs.Code.{number_of}
 use Rattle.desk.specs.declared.Desk.{Desk}
 use Rattle.desk.specs.Sound.{sound}
 use Rattle.desk.specs.Turns.{mark}
@@ -13,13 +14,21 @@ use Rattle.chain.specs.Chain.{chain_of}
 use Rattle.trimming.specs.Trimming.{gone_row, swept_row}
 use Rattle.sweeping.specs.declared.Swept.{Swept}
 
--- the paper's number and values of what sweep answers
-abbrev pub said_swept : Swept → ℕ × ℕ × ℕ
-said_swept r = (code_of r.answer, r.next, r.removed)
+-- the paper's number and values of what sweep answers: the next row and the versions removed, both 0 where it refuses
+abbrev pub next_of : Result Swept Refusal → ℕ
+next_of (Ok x) = x.next
+next_of (Err r) = 0
+
+abbrev pub removed_of : Result Swept Refusal → ℕ
+removed_of (Ok x) = x.removed
+removed_of (Err r) = 0
+
+abbrev pub said_swept : Result Swept Refusal → ℕ × ℕ × ℕ
+said_swept r = (number_of r, next_of r, removed_of r)
 
 -- "treats min(quota, rows left) of them"
 unfoldable pub treated : List ℕ → ℕ → ℕ → ℕ
-treated d first quota = cond (ltb quota (rows d - first)) quota (rows d - first)
+treated d first quota = min quota (rows d - first)
 
 -- 6: "for sweep, any break in a row it treats"
 unfoldable pub all_whole : List ℕ → List ℕ → ℕ → ℕ → Bool

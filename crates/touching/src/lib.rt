@@ -1,5 +1,6 @@
 // Writes that touch: "A page in which insert, update, delete or withdraw writes or frees a slot or entry is touched and gets the
-// session's number as txn_id", and its item_count is counted anew ("01, The page"). No caller keeps a set of touched pages.
+// session's number as txn_id", and its item_count is counted anew ("01, The page"). No caller keeps a set of touched pages. The three
+// differ in what they write; what they share is `touch` of `page`.
 #![tactic(auto)]
 
 ghost use Rattle.std.specs.Prelude.{◌≡◌, ◌<◌, length};
@@ -11,6 +12,7 @@ use records::entry::Entry;
 use records::slot::Slot;
 
 // Writes row r whole, for session txn.
+#[tactic(auto, using(crate::proofs::Touchings::with_slot_stored))]
 pub fn write_slot(data: &mut [u8], r: usize, m: Slot, body: &[u8], txn: u64)
     requires { (r < rows «data».old) × (length body.now ≡ 32) }
     ensures { «data».new ≡ with_slot txn r m body.now «data».old }
@@ -20,6 +22,7 @@ pub fn write_slot(data: &mut [u8], r: usize, m: Slot, body: &[u8], txn: u64)
 }
 
 // Writes the metadata of row r alone, for session txn.
+#[tactic(auto, using(crate::proofs::Touchings::with_meta_stored))]
 pub fn write_meta(data: &mut [u8], r: usize, m: Slot, txn: u64)
     requires { r < rows «data».old }
     ensures { «data».new ≡ with_meta txn r m «data».old }
@@ -29,6 +32,7 @@ pub fn write_meta(data: &mut [u8], r: usize, m: Slot, txn: u64)
 }
 
 // Writes entry e whole, for session txn.
+#[tactic(auto, using(crate::proofs::Touchings::with_entry_stored))]
 pub fn write_entry(undo: &mut [u8], e: usize, m: Entry, body: &[u8], txn: u64)
     requires { (e < entries undo.old) × (length body.now ≡ 32) }
     ensures { undo.new ≡ with_entry txn e m body.now undo.old }

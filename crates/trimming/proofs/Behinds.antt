@@ -1,10 +1,9 @@
 -- Sweeping behind a slot that stays ("01, Writes, withdrawal, sweep"): along a whole chain nothing is written before the first version
 -- that goes. Assumes nothing.
 use mathlib.Core.Path.{◌≡◌, refl, sym, ap, subst, ◌∙◌}
-use mathlib.Core.Logic.{◌⊎◌}
 use mathlib.Core.Bool.{Bool, true, false, ◌||◌}
 use mathlib.Core.List.{List, [], ◌∷◌}
-use Prim.Native.Nat.{ℕ, suc, ◌-◌, ◌≤◌, ◌<◌}
+use Prim.Native.Nat.{ℕ, suc, ◌≤◌, ◌<◌}
 use native.Mathlib.Omega.{arith}
 use lib.ListN.{length}
 use lib.Dec.{eqb}
@@ -13,7 +12,7 @@ use Rattle.kind.specs.Areas.{Both, both}
 use Rattle.records.specs.declared.slot.Slot.{Slot}
 use Rattle.records.specs.declared.entry.Entry.{Entry}
 use Rattle.chain.specs.declared.Place.{Place}
-use Rattle.chain.specs.declared.Place.TheVariants.{Data, Undo}
+use Rattle.chain.specs.declared.Place.TheVariants.{Nowhere, Data, Undo}
 use Rattle.chain.specs.declared.Link.{Link}
 use Rattle.chain.specs.declared.Link.TheVariants.{To}
 use Rattle.chain.specs.Chain.{Version, Chain, onto, among, chain_from, link_of}
@@ -22,9 +21,8 @@ use Rattle.chain.proofs.Chains.{copy_of, chain_from_passed, chain_from_on}
 use Rattle.chain.proofs.Rows.{broken}
 use Rattle.strands.specs.Strands.{entry_in, Strand}
 use Rattle.strands.proofs.Runs.{chain_strand, chain_few, strand_chain}
-use Rattle.strands.proofs.Strands.{versions_out}
+use Rattle.strands.proofs.Strands.{versions_none, versions_out}
 use Rattle.trimming.specs.Trimming.{dead_in, inside, cut_at, swept_all, swept_behind, gone_behind}
-use Rattle.trimming.proofs.Rests.{versions_none}
 
 -- ---- whole chains
 
@@ -66,6 +64,12 @@ whole_on u r left ps ptr e m to w = by (among e ps) refl
 
 -- ---- the walk to the first version that goes
 
+-- areas as long have the place as well
+pub inside_long : (at : Place) (d d' u u' : List ℕ) → length d' ≡ length d → length u' ≡ length u → inside at d u → inside at d' u'
+inside_long (Data r) d d' u u' long long' h = rw long h
+inside_long (Undo e) d d' u u' long long' h = rw long' h
+inside_long Nowhere d d' u u' long long' h = tt
+
 -- behind the slot m of row r
 abbrev pub older : List ℕ → ℕ → Slot → List Version
 older u r m = (chain_from u r (entries u) [] m.undo_ptr).versions
@@ -102,9 +106,8 @@ module _ (mark : ℕ) (s d₀ u₀ : List ℕ) (r : ℕ) (m : Slot) where
       sym (ap (λ (l : List Version). swept_behind mark s (version at newer) l (both d u)) none) ∙ h.swept,
     )
 
-    pub stays_end : (tag : Link → ℕ) → ((e : ℕ) (n : Entry) → tag (To e n) ≡ 2) → (l : Link) → (tag l ≡ 0) ⊎ (tag l ≡ 1)
-        → l ≡ link_of u r newer.undo_ptr → Kept
-    stays_end tag two l t is = kept (versions_none u r left h.passed newer.undo_ptr tag two l t is)
+    pub stays_end : {l : Link} → l ≡ link_of u r newer.undo_ptr → ((e : ℕ) (n : Entry) → l ≡ To e n → ⊥) → Kept
+    stays_end is away = kept (versions_none u r h.passed newer.undo_ptr left is away)
 
     pub stays_out : left ≤ 0 → Kept
     stays_out z =
@@ -114,24 +117,21 @@ module _ (mark : ℕ) (s d₀ u₀ : List ℕ) (r : ℕ) (m : Slot) where
         ∙ versions_out u r h.passed newer.undo_ptr)
 
     -- an entry e stands behind it
-    module _ (e : ℕ) (n : Entry) (some : 0 < left) (to : link_of u r newer.undo_ptr ≡ To e n) where
+    module _ {next : ℕ} (e : ℕ) (n : Entry) (more : left ≡ suc next) (to : link_of u r newer.undo_ptr ≡ To e n) where
       abbrev further : Chain
-      further = chain_from u r (left - 1) (e ∷ h.passed) n.copy.undo_ptr
+      further = chain_from u r next (e ∷ h.passed) n.copy.undo_ptr
 
       goes_on : here ≡ onto (copy_of e n) further
-      goes_on = by (left - 1) (omega arith) h.whole
-        where
-          by : (k : ℕ) → left ≡ suc k → here.whole ≡ true → here ≡ onto (copy_of e n) (chain_from u r k (e ∷ h.passed) n.copy.undo_ptr)
-          by k is w =
-              ap (λ (i : ℕ). chain_from u r i h.passed newer.undo_ptr) is
-              ∙ whole_on u r k h.passed newer.undo_ptr e n to
-              (ap (λ (i : ℕ). (chain_from u r i h.passed newer.undo_ptr).whole) (sym is) ∙ w)
+      goes_on =
+          ap (λ (i : ℕ). chain_from u r i h.passed newer.undo_ptr) more
+          ∙ whole_on u r next h.passed newer.undo_ptr e n to
+          (ap (λ (i : ℕ). (chain_from u r i h.passed newer.undo_ptr).whole) (sym more) ∙ h.whole)
 
       split : here.versions ≡ copy_of e n ∷ further.versions
       split = ap (λ (c : Chain). c.versions) goes_on
 
       -- and stays: "the first version whose expirer is committed and below the mark"
-      pub stays_next : dead_in mark s n.copy ≡ false → Stays d u (left - 1) (Undo e) n.copy
+      pub stays_next : dead_in mark s n.copy ≡ false → Stays d u next (Undo e) n.copy
       unfolding gone_behind swept_behind
       stays_next alive =
           record {

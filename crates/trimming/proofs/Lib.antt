@@ -1,6 +1,5 @@
 pub mod Wholes
 pub mod Tallied
-pub mod Cuts
 pub mod Rests
 pub mod Behinds
 pub mod Sweeps

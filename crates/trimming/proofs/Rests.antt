@@ -1,7 +1,6 @@
 -- Freeing a chain's rest as it is walked ("01, Writes, withdrawal, sweep"): once an entry is freed, the chain behind it is what it was,
 -- and the rule from here on is the rule from the start. Assumes nothing.
 use mathlib.Core.Path.{◌≡◌, sym, ap, ◌∙◌}
-use mathlib.Core.Logic.{◌⊎◌, ⊎_elim}
 use mathlib.Core.List.{List, [], ◌∷◌}
 use Prim.Native.Nat.{ℕ, suc, ◌+◌, ◌-◌, ◌≤◌, ◌<◌}
 use native.Mathlib.Nat.{zero-add}
@@ -9,13 +8,13 @@ use native.Mathlib.Omega.{arith}
 use lib.ListN.{length}
 use Rattle.records.specs.declared.entry.Entry.{Entry}
 use Rattle.chain.specs.declared.Link.{Link}
-use Rattle.chain.specs.declared.Link.TheVariants.{End, Break, To}
+use Rattle.chain.specs.declared.Link.TheVariants.{To}
 use Rattle.chain.specs.Chain.{Version, Chain, chain_from, link_of}
 use Rattle.chain.proofs.Links.{link_real}
 use Rattle.chain.proofs.Chains.{copy_of}
 use Rattle.freeing.specs.Freeing.{swept_entry}
 use Rattle.strands.specs.Strands.{Frees}
-use Rattle.strands.proofs.Strands.{swept_entry_frees, freed_step, versions_end, versions_break, versions_out}
+use Rattle.strands.proofs.Strands.{swept_entry_frees, freed_step, versions_none, versions_out}
 use Rattle.trimming.specs.Trimming.{swept_all}
 
 -- the versions of row r from a pointer on, of at most so many entries
@@ -26,14 +25,6 @@ onward u r fuel ptr = (chain_from u r fuel [] ptr).versions
 pub record Freed (u₀ : List ℕ) (r first most : ℕ) (u : List ℕ) (ptr n : ℕ) : Type 0 where
   pub leaves : swept_all (onward u r (most - n) ptr) u ≡ swept_all (onward u₀ r most first) u₀
   pub counts : n + length (onward u r (most - n) ptr) ≡ length (onward u₀ r most first)
-
--- a link that leads to no entry, by its tag, has no versions
-pub versions_none : (u : List ℕ) (r fuel : ℕ) (ps : List ℕ) (ptr : ℕ) (tag : Link → ℕ) → ((e : ℕ) (m : Entry) → tag (To e m) ≡ 2) → (l : Link)
-    → (tag l ≡ 0) ⊎ (tag l ≡ 1) → l ≡ link_of u r ptr → (chain_from u r fuel ps ptr).versions ≡ []
-versions_none u r fuel ps ptr tag two End h is = versions_end u r ps ptr fuel (sym is)
-versions_none u r fuel ps ptr tag two Break h is = versions_break u r ps ptr fuel (sym is)
-versions_none u r fuel ps ptr tag two (To e m) h is =
-    absurd (⊎_elim (λ (q : tag (To e m) ≡ 0). omega (arith, two e m)) (λ (q : tag (To e m) ≡ 1). omega (arith, two e m)) h)
 
 module _ (u₀ : List ℕ) (r first most : ℕ) where
   pub freed_start : Freed u₀ r first most u₀ first 0
@@ -75,8 +66,8 @@ module _ (u₀ : List ℕ) (r first most : ℕ) where
     )
 
     -- the chain ends here
-    pub freed_end : (tag : Link → ℕ) → ((e : ℕ) (m : Entry) → tag (To e m) ≡ 2) → (l : Link) → (tag l ≡ 0) ⊎ (tag l ≡ 1) → l ≡ link_of u r ptr → Done
-    freed_end tag two l told is = done (versions_none u r (most - n) [] ptr tag two l told is)
+    pub freed_end : {l : Link} → l ≡ link_of u r ptr → ((e : ℕ) (m : Entry) → l ≡ To e m → ⊥) → Done
+    freed_end is away = done (versions_none u r [] ptr (most - n) is away)
 
     -- or as many are freed as there are
     pub freed_out : most ≤ n → Done

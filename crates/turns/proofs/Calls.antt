@@ -1,27 +1,49 @@
--- The rules of begin, next statement and commit, case by case. Assumes nothing.
+-- The rules of begin, next statement and commit, case by case; and what an admitted session is. Assumes nothing.
 use mathlib.Core.Path.{◌≡◌, sym, ap, ◌∙◌}
 use mathlib.Core.Bool.{Bool, true, false}
 use mathlib.Core.List.{List, [], ◌∷◌}
-use Prim.Native.Nat.{ℕ}
+use Prim.Native.Nat.{ℕ, ◌≤◌, ◌<◌}
 use lib.ListN.{length, get_or}
 use lib.Dec.{eqb}
 use borrow.Author.Tests.{eq-eqb, ne_eqb}
+use Rattle.std.specs.Prelude.{Ok, Err}
 use Rattle.ground.specs.Refuse.{first_of, settle}
-use Rattle.answer.specs.declared.Answer.{Answer}
+use Rattle.answer.specs.declared.Refusal.{Refusal}
 use Rattle.answer.specs.Code.{code_of}
 use Rattle.columns.specs.Limits.{last_statement}
 use Rattle.places.specs.Open.{open_count, place_in}
 use Rattle.desk.specs.declared.Desk.{Desk}
 use Rattle.desk.specs.Sound.{sound}
 use Rattle.desk.specs.Turns.{begun, moved, closed}
+use Rattle.sessions.proofs.Changes.{sound_parts}
 use Rattle.kind.specs.Kind.{lengths_ok}
 use Rattle.kind.specs.Areas.{areas}
 use Rattle.page.specs.Header.{txn_id, put_field}
 use Rattle.status.specs.declared.Status.TheVariants.{InWork, Committed}
 use Rattle.status.specs.Status.{put_status}
-use Rattle.admit.specs.declared.Admitted.TheVariants.{Refused}
-use Rattle.admit.proofs.Admissions.{Unspoiled, unspoiled_admission, refuses_unspoiled, goes_past, admits_at}
+use Rattle.admit.proofs.Admissions.{Unspoiled, unspoiled_admission, refuses_unspoiled, goes_past, admits_at, admits_unspoiled, admits_place, admits_session, admits_statement, admits_status}
 use Rattle.turns.specs.Turns.{begin_refusal, begin_rule, next_refusal, next_rule, commit_refusal, commit_rule}
+
+-- the next number of a sound desk
+pub next_last : (desk : Desk) → sound desk ≡ true → desk.next ≤ 32576
+next_last desk b = (sound_parts desk b).last
+
+-- what is known where a session is admitted that is not spoiled: its place, its number, its statement, and the status page
+pub record Bounds (s : List ℕ) (desk : Desk) (x k : ℕ) : Type 0 where
+  pub place : k < 16
+  pub number : x < 32576
+  pub statement : get_or desk.statements k 0 ≤ 65535
+  pub page : length s ≡ 8192
+
+pub bounds : (d u s : List ℕ) (desk : Desk) (x k : ℕ) → unspoiled_admission d u s desk x ≡ Ok k → Bounds s desk x k
+bounds d u s desk x k e =
+    let a = (admits_unspoiled d u s desk x k e).admitted in
+    record {
+      place = admits_place d u s desk x k a;
+      number = admits_session d u s desk x k a;
+      statement = admits_statement d u s desk x k a;
+      page = admits_status d u s desk x k a;
+    }
 
 module _ (d u s : List ℕ) (desk : Desk) where
   -- ---- begin
@@ -79,7 +101,7 @@ module _ (d u s : List ℕ) (desk : Desk) where
     abbrev commit_no : ℕ → (ℕ × Desk) × List ℕ
     commit_no n = ((n, desk), s)
 
-    module _ (n : Answer) (e : unspoiled_admission d u s desk x ≡ Refused n) where
+    module _ (n : Refusal) (e : unspoiled_admission d u s desk x ≡ Err n) where
       pub next_refused : next_rule (areas d u s) desk x ≡ next_no (code_of n)
       unfolding next_rule next_refusal
       next_refused = refuses_unspoiled d u s desk x n next_rest (next_done (place_in x desk.numbers)) next_no e

@@ -4,11 +4,12 @@ use mathlib.Core.Path.{◌≡◌, refl, sym, ap, ◌∙◌}
 use mathlib.Core.List.{List}
 use Prim.Native.Nat.{ℕ}
 use lib.ListN.{length}
+use Rattle.std.specs.Prelude.{Result}
 use Rattle.ground.specs.Does.{Does}
 use Rattle.ground.proofs.Refusals.{settled}
 use Rattle.ground.proofs.Once.{once}
-use Rattle.answer.specs.declared.Answer.{Answer}
-use Rattle.answer.proofs.Codes.{code_of_injective}
+use Rattle.answer.specs.declared.Refusal.{Refusal}
+use Rattle.answer.proofs.Codes.{reported_once}
 use Rattle.places.specs.Open.{place_in}
 use Rattle.desk.specs.declared.Desk.{Desk}
 use Rattle.desk.specs.Turns.{begun, moved, closed}
@@ -20,26 +21,23 @@ use Rattle.status.specs.declared.Status.TheVariants.{InWork, Committed}
 use Rattle.status.specs.Status.{put_status}
 use Rattle.admit.specs.Admit.{said}
 use Rattle.admit.proofs.Admissions.{said_once}
-use Rattle.turns.specs.declared.Begun.{Begun}
 use Rattle.turns.specs.Turns.{said_begun, begin_refusal, begin_rule, next_refusal, next_rule, commit_refusal, commit_rule}
 
 -- ---- no second result: answer, words and status page
 
 module _ (w w' : List ℕ) (long : length w ≡ all_words) (long' : length w' ≡ all_words) where
-  said_begun_injective : (r r' : Begun) → said_begun r w ≡ said_begun r' w' → (r ≡ r') × (w ≡ w')
+  said_begun_injective : (r r' : Result ℕ Refusal) → said_begun r w ≡ said_begun r' w' → (r ≡ r') × (w ≡ w')
   said_begun_injective r r' e =
-      let a : r.answer ≡ r'.answer = code_of_injective r.answer r'.answer (ap (λ (p : ℕ × ℕ × Desk). p.0) e) in
-      let n : r.number ≡ r'.number = ap (λ (p : ℕ × ℕ × Desk). p.1) e in
-      (λ i. record { answer = a i; number = n i }, words_once w w' long long' (ap (λ (p : ℕ × ℕ × Desk). p.2) e))
+      (reported_once r r' (ap (λ (p : ℕ × ℕ × Desk). p.0) e) (ap (λ (p : ℕ × ℕ × Desk). p.1) e), words_once w w' long long' (ap (λ (p : ℕ × ℕ × Desk). p.2) e))
 
-  pub begin_once : (a : Areas) (d : Desk) (r r' : Begun) (x x' : List ℕ) → Does (begin_rule a d) (said_begun r w) x → Does (begin_rule a d) (said_begun r' w') x'
+  pub begin_once : (a : Areas) (d : Desk) (r r' : Result ℕ Refusal) (x x' : List ℕ) → Does (begin_rule a d) (said_begun r w) x → Does (begin_rule a d) (said_begun r' w') x'
       → ((r ≡ r') × (w ≡ w')) × (x ≡ x')
   begin_once a d r r' x x' p q = let o = once p q in (said_begun_injective r r' o.0, o.1)
 
-  pub next_once : (a : Areas) (d : Desk) (x : ℕ) (r r' : Answer) → said r w ≡ next_rule a d x → said r' w' ≡ next_rule a d x → (r ≡ r') × (w ≡ w')
+  pub next_once : (a : Areas) (d : Desk) (x : ℕ) (r r' : Result (Unit {0}) Refusal) → said r w ≡ next_rule a d x → said r' w' ≡ next_rule a d x → (r ≡ r') × (w ≡ w')
   next_once a d x r r' p q = said_once w w' long long' r r' (p ∙ sym q)
 
-  pub commit_once : (a : Areas) (d : Desk) (s : ℕ) (r r' : Answer) (x x' : List ℕ) → Does (commit_rule a d s) (said r w) x → Does (commit_rule a d s) (said r' w') x'
+  pub commit_once : (a : Areas) (d : Desk) (s : ℕ) (r r' : Result (Unit {0}) Refusal) (x x' : List ℕ) → Does (commit_rule a d s) (said r w) x → Does (commit_rule a d s) (said r' w') x'
       → ((r ≡ r') × (w ≡ w')) × (x ≡ x')
   commit_once a d s r r' x x' p q = let o = once p q in (said_once w w' long long' r r' o.0, o.1)
 

@@ -1,8 +1,9 @@
 -- The rules of begin, next statement and commit: what each answers, the desk, and what it leaves on the status page ("01, Sessions and
 -- sight", "01, When the desk says no"); next and commit of a spoiled session answer 18 ("02, T-07"). Assumes nothing.
-use Rattle.std.specs.Prelude.{ℕ, not, List, [], ◌∷◌, get_or, eqb}
+use Rattle.std.specs.Prelude.{ℕ, not, List, [], ◌∷◌, get_or, eqb, Result}
 use Rattle.ground.specs.Refuse.{first_of, settle}
-use Rattle.answer.specs.Code.{code_of}
+use Rattle.answer.specs.declared.Refusal.{Refusal}
+use Rattle.answer.specs.Code.{number_of, reported}
 use Rattle.columns.specs.Limits.{sessions, last_statement}
 use Rattle.places.specs.Open.{open_count, place_in, is_open}
 use Rattle.desk.specs.declared.Desk.{Desk}
@@ -14,11 +15,10 @@ use Rattle.kind.specs.Areas.{Areas, bad_length}
 use Rattle.page.specs.Header.{txn_id, put_field}
 use Rattle.status.specs.declared.Status.TheVariants.{InWork, Committed}
 use Rattle.status.specs.Status.{put_status}
-use Rattle.turns.specs.declared.Begun.{Begun}
 
 -- the paper's number and values of what the calls answer, with the desk that their words say then
-abbrev pub said_begun : Begun → List ℕ → ℕ × ℕ × Desk
-said_begun r w = (code_of r.answer, r.number, desk_in w)
+abbrev pub said_begun : Result ℕ Refusal → List ℕ → ℕ × ℕ × Desk
+said_begun r w = (number_of r, reported r, desk_in w)
 
 -- ---- begin
 

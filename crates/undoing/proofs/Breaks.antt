@@ -49,7 +49,7 @@ module _ (n k : ℕ) (d u : List ℕ) where
   unfolding some_broken
   one_broken r inside h = sym (ap not (all_fails (fine n k d u) (rows d) r inside (ap not h)))
 
--- ---- one row, where m was read in its slot and b is what is_own answered of it
+-- ---- one row, where m was read in its slot and b is what was answered of it
 
 module _ {m : Slot} {b : Bool} (n k : ℕ) (d u : List ℕ) (r : ℕ) (read : m ≡ slot_at r d) (asked : b ≡ own_made n k m) where
   -- a slot that another made, or nobody

@@ -3,8 +3,9 @@ use mathlib.Core.Path.{◌≡◌, sym, ap, ◌∙◌}
 use mathlib.Core.Bool.{Bool, true, false}
 use mathlib.Core.List.{List, [], ◌∷◌}
 use Prim.Native.Nat.{ℕ}
+use Rattle.std.specs.Prelude.{Err}
 use Rattle.ground.specs.Refuse.{first_of, settle}
-use Rattle.answer.specs.declared.Answer.{Answer}
+use Rattle.answer.specs.declared.Refusal.{Refusal}
 use Rattle.answer.specs.Code.{code_of}
 use Rattle.places.specs.Open.{place_in}
 use Rattle.desk.specs.declared.Desk.{Desk}
@@ -14,7 +15,6 @@ use Rattle.kind.specs.Kind.{rows}
 use Rattle.kind.specs.Areas.{Areas, areas, Both, both}
 use Rattle.status.specs.declared.Status.TheVariants.{Withdrawn}
 use Rattle.status.specs.Status.{put_status}
-use Rattle.admit.specs.declared.Admitted.TheVariants.{Refused}
 use Rattle.admit.proofs.Admissions.{Admits, admission, refuses, goes_on, admits_at}
 use Rattle.undoing.specs.Undoing.{some_broken, undone_from, undone, withdraw_refusal, withdrawn, withdraw_rule}
 
@@ -28,11 +28,11 @@ module _ (d u s : List ℕ) (desk : Desk) (x : ℕ) where
   abbrev no : ℕ → (ℕ × Desk) × Areas
   no n = ((n, desk), areas d u s)
 
-  pub withdraw_refused : (n : Answer) → admission d u s desk x ≡ Refused n → withdraw_rule (areas d u s) desk x ≡ no (code_of n)
+  pub withdraw_refused : (n : Refusal) → admission d u s desk x ≡ Err n → withdraw_rule (areas d u s) desk x ≡ no (code_of n)
   unfolding withdraw_rule withdraw_refusal
   withdraw_refused n e = refuses d u s desk x n rest (done (place_in x desk.numbers)) no e
 
-  -- by what admission says, and b is what is_broken answered
+  -- by what admission says, and b is what was answered of a break
   module _ {b : Bool} (k : ℕ) (a : Admits d u s desk x k) (asked : b ≡ some_broken x first_statement d u) where
     withdraw_on : {t : Bool} → b ≡ t → withdraw_rule (areas d u s) desk x ≡ settle (first_of ((t, 6) ∷ [])) (done k) no
     unfolding withdraw_rule withdraw_refusal

@@ -4,10 +4,11 @@ use mathlib.Core.Path.{◌≡◌, refl}
 use mathlib.Core.List.{List}
 use Prim.Native.Nat.{ℕ}
 use lib.ListN.{length}
+use Rattle.std.specs.Prelude.{Result}
 use Rattle.ground.specs.Does.{Does}
 use Rattle.ground.proofs.Once.{once}
 use Rattle.ground.proofs.Refusals.{settled}
-use Rattle.answer.specs.declared.Answer.{Answer}
+use Rattle.answer.specs.declared.Refusal.{Refusal}
 use Rattle.places.specs.Open.{place_in}
 use Rattle.desk.specs.declared.Desk.{Desk}
 use Rattle.desk.specs.Turns.{closed}
@@ -18,7 +19,7 @@ use Rattle.admit.proofs.Admissions.{said_once}
 use Rattle.undoing.specs.Undoing.{withdraw_refusal, withdrawn, withdraw_rule}
 
 module _ (a : Areas) (d : Desk) (x : ℕ) where
-  pub withdraw_once : (r r' : Answer) (w w' : List ℕ) (y y' : Areas)
+  pub withdraw_once : (r r' : Result (Unit {0}) Refusal) (w w' : List ℕ) (y y' : Areas)
       → length w ≡ all_words
       → length w' ≡ all_words
       → Does (withdraw_rule a d x) (said r w) y

@@ -1,14 +1,14 @@
 -- Laws of the lowest record that is not in use: a search page by page is one over the whole area, what the first 8 bytes of a record
 -- say is what its create or its writer says, and what was found is empty while everything below it is in use. Assumes nothing.
 use mathlib.Core.Path.{◌≡◌, refl, sym, ap, ◌∙◌}
-use mathlib.Core.Bool.{Bool, true, false, not, not-not}
+use mathlib.Core.Bool.{Bool, false, not, not-not}
 use mathlib.Core.List.{List}
 use Prim.Native.Nat.{ℕ, zero, suc, ◌+◌, ◌*◌, ◌/◌, ◌%◌, ◌-◌, ◌≤◌, ◌<◌}
 use native.Mathlib.Nat.{add-zero, mul-add-div_right, div-eq_of_lt, mul-add-mod_self_right, mod-eq_of_lt, mul-le-mul_right, zero-mul, suc-mul, sub-zero}
 use native.Mathlib.Omega.{arith}
 use lib.ListN.{take, drop}
 use lib.Dec.{eqb}
-use borrow.Author.Tests.{eqb-true, eqb-false, eq-eqb, ne_eqb}
+use borrow.Author.Tests.{eqb-true, eqb-false}
 use Rattle.ground.specs.Range.{first_from}
 use Rattle.ground.proofs.Ranges.{first_here, first_next, first_end, first_le, first_passes, first_before}
 use Rattle.little.specs.Little.{little, part}
@@ -71,14 +71,9 @@ abbrev pub idle : ℕ → List ℕ → ℕ → Bool
 idle size page i = not (in_use size page i)
 
 -- as it is read
-module _ {x : ℕ} (size : ℕ) (page : List ℕ) (i : ℕ) (read : x ≡ little (part (48 + i * size) 8 page)) where
-  pub idle_read : x ≡ 0 → idle size page i ≡ true
-  unfolding in_use
-  idle_read e = ap (λ (b : Bool). not (not b)) (eq-eqb _ 0 (sym read ∙ e))
-
-  pub busy_read : (x ≡ 0 → ⊥) → idle size page i ≡ false
-  unfolding in_use
-  busy_read ne = ap (λ (b : Bool). not (not b)) (ne_eqb _ 0 (λ e. ne (read ∙ e)))
+pub idle_read : {x : ℕ} {b : Bool} (size : ℕ) (page : List ℕ) (i : ℕ) → x ≡ little (part (48 + i * size) 8 page) → eqb x 0 ≡ b → idle size page i ≡ b
+unfolding in_use
+idle_read size page i read e = not-not (eqb (little (part (48 + i * size) 8 page)) 0) ∙ ap (λ (n : ℕ). eqb n 0) (sym read) ∙ e
 
 -- ---- the search of an area
 

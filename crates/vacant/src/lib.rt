@@ -3,61 +3,55 @@
 #![tactic(auto)]
 
 ghost use Rattle.std.specs.Prelude.{◌≡◌, ◌*◌, ◌≤◌, length};
-ghost use Rattle.kind.specs.Kind.{page_size, pages};
+ghost use Rattle.ground.specs.Range.{found_below};
+ghost use Rattle.kind.specs.Kind.{page_size, pages, rows, entries};
 ghost use Rattle.page.specs.Count.{Roomy};
 ghost use Rattle.vacant.specs.Vacant.{lowest_in, lowest, lowest_empty, lowest_free};
 
 use kind::Kind;
+use little::Number;
 
-// The lowest record of a page of kind k that is not in use; where all are, their number.
-fn lowest_in(page: &[u8], k: Kind) -> usize
+// The lowest record of a page of kind k that is not in use.
+fn lowest_in(page: &[u8], k: Kind) -> Option<usize>
     requires { (length page.now ≡ page_size) × Roomy k }
-    ensures { (result ≡ lowest_in k page.now) × (result ≤ k.count) }
+    ensures { result ≡ found_below k.count (lowest_in k page.now) }
 {
-    let size = k.size;
-    let count = k.count;
-    let mut i = 0;
-    while i < count {
-        if little::get8(page, Kind::HEADER + i * size) == 0 {
-            return i;
+    for i in 0..k.count {
+        let free = u64::get(page, Kind::HEADER + i * k.size) == 0;
+        if free {
+            return Some(i);
         }
-        i += 1;
     }
-    i
+    None
 }
 
-// The lowest record of an area of kind k that is not in use, lowest page first, then lowest place; where all are, their number.
-fn lowest_of(s: &[u8], k: Kind) -> usize
+// The lowest record of an area of kind k that is not in use, lowest page first, then lowest place.
+fn lowest_of(s: &[u8], k: Kind) -> Option<usize>
     requires { (pages s.now ≤ 65536) × Roomy k }
-    ensures { result ≡ lowest k s.now }
+    ensures { result ≡ found_below (pages s.now * k.count) (lowest k s.now) }
 {
-    let count = k.count;
-    let n = kind::pages(s);
-    let mut p = 0;
-    while p < n {
+    for p in 0..kind::pages(s) {
         let at = p * Kind::PAGE;
         let end = at + Kind::PAGE;
-        let i = lowest_in(&s[at..end], k);
-        if i < count {
-            return p * count + i;
+        if let Some(i) = lowest_in(&s[at..end], k) {
+            return Some(p * k.count + i);
         }
-        p += 1;
     }
-    p * count
+    None
 }
 
-// "the lowest empty slot"; where there is none, the number of rows.
-pub fn lowest_empty(data: &[u8]) -> usize
+// "the lowest empty slot".
+pub fn lowest_empty(data: &[u8]) -> Option<usize>
     requires { pages «data».now ≤ 65536 }
-    ensures { result ≡ lowest_empty «data».now }
+    ensures { result ≡ found_below (rows «data».now) (lowest_empty «data».now) }
 {
     lowest_of(data, Kind::DATA)
 }
 
-// "the lowest free entry"; where there is none, the number of entries.
-pub fn lowest_free(undo: &[u8]) -> usize
+// "the lowest free entry".
+pub fn lowest_free(undo: &[u8]) -> Option<usize>
     requires { pages undo.now ≤ 65536 }
-    ensures { result ≡ lowest_free undo.now }
+    ensures { result ≡ found_below (entries undo.now) (lowest_free undo.now) }
 {
     lowest_of(undo, Kind::UNDO)
 }

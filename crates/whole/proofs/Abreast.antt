@@ -1,18 +1,19 @@
 -- Laws of four pages at once: the parts of a page that are worked abreast, and the checksums written one after the other. Assumes nothing.
 use mathlib.Core.Path.{◌≡◌, refl, sym, ap, ◌∙◌}
-use mathlib.Core.List.{List}
-use Prim.Native.Nat.{ℕ, ◌+◌, ◌*◌, ◌-◌, ◌≤◌}
+use mathlib.Core.List.{List, [], ◌∷◌}
+use Prim.Native.Nat.{ℕ, zero, suc, ◌+◌, ◌*◌, ◌-◌, ◌≤◌, ◌<◌}
+use native.Mathlib.Nat.{add-zero}
+use native.Mathlib.Numerals.{add-one}
 use native.Mathlib.Omega.{arith}
-use lib.ListN.{length, take, drop}
+use lib.ListN.{length, get_or, take, drop}
 use Rattle.little.specs.Little.{digits, part}
 use Rattle.little.proofs.Parts.{length_part, part_part, part_all}
-use Rattle.crc.specs.declared.Four.{Four}
 use Rattle.crc.specs.Abreast.{crc_four_more, crc_four}
 use Rattle.crc.proofs.CrcLaws.{four_eq}
 use Rattle.page.specs.Header.{page_at, checksum, put_field}
 use Rattle.page.proofs.Headers.{length_page_at}
-use Rattle.whole.specs.Whole.{sealed_page}
-use Rattle.whole.specs.Abreast.{starts_from, checksums_from, sealed_four}
+use Rattle.whole.specs.Whole.{checksum_of, sealed_page}
+use Rattle.whole.specs.Abreast.{starts_from, checksums_from}
 use Rattle.whole.proofs.Wholes.{sealed_page_put, start_more, checksum_of_more}
 use Rattle.whole.proofs.Rights.{page_at_sealed_page_other}
 
@@ -36,18 +37,18 @@ page_at_whole page e = part_all 8192 page (omega arith)
 -- ---- the checksums of pages p to p + 3
 
 -- of what they begin with
-pub starts_more : {x₁ x₂ x₃ x₄ z : List ℕ} {f r : Four} (p : ℕ) (s : List ℕ)
+pub starts_more : {x₁ x₂ x₃ x₄ z f r : List ℕ} (p : ℕ) (s : List ℕ)
     → x₁ ≡ part 0 20 (page_at p s)
     → x₂ ≡ part 0 20 (page_at (p + 1) s)
     → x₃ ≡ part 0 20 (page_at (p + 2) s)
     → x₄ ≡ part 0 20 (page_at (p + 3) s)
     → z ≡ digits 4 0
-    → f ≡ crc_four x₁ x₂ x₃ x₄
-    → r ≡ crc_four_more f z z z z
+    → f ≡ crc_four (x₁ ∷ x₂ ∷ x₃ ∷ x₄ ∷ [])
+    → r ≡ crc_four_more f (z ∷ z ∷ z ∷ z ∷ [])
     → r ≡ starts_from p s
 starts_more {z = z} p s a₁ a₂ a₃ a₄ ez ef er =
     er
-    ∙ ap (λ (g : Four). crc_four_more g z z z z) ef
+    ∙ ap (λ (g : List ℕ). crc_four_more g (z ∷ z ∷ z ∷ z ∷ [])) ef
     ∙ four_eq
     (start_more (page_at p s) a₁ ez refl refl)
     (start_more (page_at (p + 1) s) a₂ ez refl refl)
@@ -55,54 +56,51 @@ starts_more {z = z} p s a₁ a₂ a₃ a₄ ez ef er =
     (start_more (page_at (p + 3) s) a₄ ez refl refl)
 
 -- carried on over their rests
-pub checksums_more : {y₁ y₂ y₃ y₄ : List ℕ} {f r : Four} (p : ℕ) (s : List ℕ) → p * 8192 + 4 * 8192 ≤ length s
+pub checksums_more : {y₁ y₂ y₃ y₄ f r : List ℕ} (p : ℕ) (s : List ℕ) → p * 8192 + 4 * 8192 ≤ length s
     → f ≡ starts_from p s
     → y₁ ≡ part 24 8168 (page_at p s)
     → y₂ ≡ part 24 8168 (page_at (p + 1) s)
     → y₃ ≡ part 24 8168 (page_at (p + 2) s)
     → y₄ ≡ part 24 8168 (page_at (p + 3) s)
-    → r ≡ crc_four_more f y₁ y₂ y₃ y₄
+    → r ≡ crc_four_more f (y₁ ∷ y₂ ∷ y₃ ∷ y₄ ∷ [])
     → r ≡ checksums_from p s
 checksums_more {y₁ = y₁} {y₂} {y₃} {y₄} p s l ef b₁ b₂ b₃ b₄ er =
     er
-    ∙ ap (λ (g : Four). crc_four_more g y₁ y₂ y₃ y₄) ef
+    ∙ ap (λ (g : List ℕ). crc_four_more g (y₁ ∷ y₂ ∷ y₃ ∷ y₄ ∷ [])) ef
     ∙ four_eq
     (checksum_of_more (page_at p s) (length_page_at p s (omega arith)) refl b₁ refl)
     (checksum_of_more (page_at (p + 1) s) (length_page_at (p + 1) s (omega arith)) refl b₂ refl)
     (checksum_of_more (page_at (p + 2) s) (length_page_at (p + 2) s (omega arith)) refl b₃ refl)
     (checksum_of_more (page_at (p + 3) s) (length_page_at (p + 3) s (omega arith)) refl b₄ refl)
 
--- written one after the other: page q is the same once another is sealed
-beside : {y : List ℕ} (p q : ℕ) (s₀ s : List ℕ) → (q ≡ p → ⊥) → y ≡ sealed_page p s → page_at q s ≡ page_at q s₀ → page_at q y ≡ page_at q s₀
-beside p q s₀ s ne e same = ap (page_at q) e ∙ page_at_sealed_page_other p q s ne ∙ same
+-- one of them
+pub checksum_at : {sums : List ℕ} (p : ℕ) (s : List ℕ) (i : ℕ) → sums ≡ checksums_from p s → i < 4 → get_or sums i 0 ≡ checksum_of (page_at (p + i) s)
+checksum_at p s zero e h = rw (e, add-zero p) (refl)
+checksum_at p s (suc zero) e h = rw e (refl)
+checksum_at p s (suc (suc zero)) e h = rw e (refl)
+checksum_at p s (suc (suc (suc zero))) e h = rw e (refl)
+checksum_at p s (suc (suc (suc (suc i)))) e h = absurd (omega arith)
 
-pub sealed_four_puts : {sums : Four} {y₁ y₂ y₃ y₄ : List ℕ} (p : ℕ) (s : List ℕ)
-    → sums ≡ checksums_from p s
-    → y₁ ≡ put_field checksum p sums.first s
-    → y₂ ≡ put_field checksum (p + 1) sums.second y₁
-    → y₃ ≡ put_field checksum (p + 2) sums.third y₂
-    → y₄ ≡ put_field checksum (p + 3) sums.fourth y₃
-    → y₄ ≡ sealed_four p s
-sealed_four_puts {sums} {y₁} {y₂} {y₃} {y₄} p s h w₁ w₂ w₃ w₄ =
-    e₄ ∙ ap (sealed_page (p + 3)) (e₃ ∙ ap (sealed_page (p + 2)) (e₂ ∙ ap (sealed_page (p + 1)) e₁))
-  where
-    e₁ : y₁ ≡ sealed_page p s
-    e₁ = sealed_page_put p s s (ap (λ (f : Four). f.first) h) refl w₁
+-- ---- written one after the other
 
-    after₁ : (q : ℕ) → (q ≡ p → ⊥) → page_at q y₁ ≡ page_at q s
-    after₁ q ne = beside p q s s ne e₁ refl
+-- pages p to p + n - 1 sealed
+abbrev pub sealed_on : ℕ → ℕ → List ℕ → List ℕ
+sealed_on p zero s = s
+sealed_on p (suc n) s = sealed_page (p + n) (sealed_on p n s)
 
-    e₂ : y₂ ≡ sealed_page (p + 1) y₁
-    e₂ = sealed_page_put (p + 1) s y₁ (ap (λ (f : Four). f.second) h) (after₁ (p + 1) (λ e. omega arith)) w₂
+-- a page behind them is as it was
+pub page_at_sealed_on : (p n q : ℕ) (s : List ℕ) → p + n ≤ q → page_at q (sealed_on p n s) ≡ page_at q s
+page_at_sealed_on p zero q s h = refl
+page_at_sealed_on p (suc n) q s h =
+    page_at_sealed_page_other (p + n) q (sealed_on p n s) (λ e. omega arith) ∙ page_at_sealed_on p n q s (omega arith)
 
-    after₂ : (q : ℕ) → (q ≡ p → ⊥) → (q ≡ p + 1 → ⊥) → page_at q y₂ ≡ page_at q s
-    after₂ q ne ne₁ = beside (p + 1) q s y₁ ne₁ e₂ (after₁ q ne)
-
-    e₃ : y₃ ≡ sealed_page (p + 2) y₂
-    e₃ = sealed_page_put (p + 2) s y₂ (ap (λ (f : Four). f.third) h) (after₂ (p + 2) (λ e. omega arith) (λ e. omega arith)) w₃
-
-    e₄ : y₄ ≡ sealed_page (p + 3) y₃
-    e₄ =
-        sealed_page_put (p + 3) s y₃ (ap (λ (f : Four). f.fourth) h)
-        (beside (p + 2) (p + 3) s y₂ (λ e. omega arith) e₃ (after₂ (p + 3) (λ e. omega arith) (λ e. omega arith)))
-        w₄
+-- one more
+pub sealed_on_more : {y : List ℕ} (p n sum : ℕ) (s₀ s : List ℕ)
+    → s ≡ sealed_on p n s₀
+    → sum ≡ checksum_of (page_at (p + n) s₀)
+    → y ≡ put_field checksum (p + n) sum s
+    → y ≡ sealed_on p (n + 1) s₀
+sealed_on_more {y} p n sum s₀ s e h w =
+    sealed_page_put (p + n) s₀ s h (ap (page_at (p + n)) e ∙ page_at_sealed_on p n (p + n) s₀ (omega arith)) w
+    ∙ ap (sealed_page (p + n)) e
+    ∙ ap (λ (m : ℕ). sealed_on p m s₀) (sym (add-one n))

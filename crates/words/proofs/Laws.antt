@@ -1,13 +1,12 @@
 -- The desk's words: how many they are, that they give the desk back, and that no other words say the same desk. Assumes nothing.
-use mathlib.Core.Path.{◌≡◌, refl, sym, ap, ap₂, ◌∙◌}
+use mathlib.Core.Path.{◌≡◌, refl, sym, ap, ◌∙◌}
 use mathlib.Core.List.{List, [], ◌∷◌, ◌++◌}
-use Prim.Native.Nat.{ℕ, zero, suc, ◌+◌, ◌-◌, ◌*◌, ◌≤◌, ◌<◌}
+use Prim.Native.Nat.{ℕ, zero, suc, ◌+◌, ◌*◌, ◌≤◌, ◌<◌}
 use native.Mathlib.Omega.{arith}
 use lib.ListN.{length, get_or, set, take, drop, length-drop}
 use lib.Seq.{take-add, take_all, take-take, drop-drop, drop-cons, get_or-take, get_or-drop, get_or-set_other, drop-set-add, drop-set-lt, take-set-le, take-set-lt}
 use lib.Dec.{eqb}
 use Rattle.columns.specs.Limits.{sessions, members, places, spoiled_mark}
-use Rattle.columns.specs.Columns.{used_in, used_of}
 use Rattle.desk.specs.declared.Desk.{Desk}
 use Rattle.desk.specs.Turns.{view_at, spoiled_at, spoiled}
 use Rattle.words.specs.Words.{numbers_at, statements_at, marks_at, lists_at, all_words, desk_of, desk_in, words_of}
@@ -73,25 +72,10 @@ cut_cut (suc a) (suc n) m [] h = refl
 cut_cut (suc a) (suc n) m (x ∷ l) h = cut_cut a n m l (omega arith)
 
 -- a session's list, of all its places
-list_at : (w : List ℕ) (k : ℕ) → k < sessions → take members (drop (lists_at + k * members) w) ≡ (view_at k (desk_in w)).list
+pub list_at : (w : List ℕ) (k : ℕ) → k < sessions → take members (drop (lists_at + k * members) w) ≡ (view_at k (desk_in w)).list
 unfolding desk_in view_at
 list_at w k h =
     ap (take members) (sym (drop-drop (k * members) lists_at w)) ∙ sym (cut_cut (k * members) places members (drop lists_at w) (omega arith))
-
--- and its used places, n of them, as a part of the words
-pub used_at : (w : List ℕ) (k n : ℕ) → k < sessions
-    → n ≡ used_in (take (lists_at + k * members + members - (lists_at + k * members)) (drop (lists_at + k * members) w))
-    → n ≤ members
-    → take (lists_at + k * members + n - (lists_at + k * members)) (drop (lists_at + k * members) w) ≡ used_of (view_at k (desk_in w)).list
-unfolding used_of
-used_at w k n h is few =
-    let at : ℕ = lists_at + k * members in
-    let all : at + members - at ≡ members = omega arith in
-    let some : at + n - at ≡ n = omega arith in
-    let full : take (at + members - at) (drop at w) ≡ (view_at k (desk_in w)).list = ap (λ (m : ℕ). take m (drop at w)) all ∙ list_at w k h in
-    ap (λ (m : ℕ). take m (drop at w)) some
-    ∙ sym (take-take n members (drop at w) few)
-    ∙ ap₂ take (is ∙ ap used_in full) (list_at w k h)
 
 -- ---- a mark set
 

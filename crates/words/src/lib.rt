@@ -5,14 +5,15 @@
 
 ghost use Rattle.std.specs.Prelude.{◌≡◌, ◌+◌, ◌<◌, ◌≤◌, length, get_or, take, drop};
 ghost use Rattle.std.proofs.lemmas.List.Edits.{sets};
-ghost use Rattle.columns.specs.Limits.{sessions, members, places};
-ghost use Rattle.columns.specs.Columns.{used_in, used_of};
+ghost use Rattle.ground.specs.Range.{found_below};
+ghost use Rattle.columns.specs.Limits.{sessions};
+ghost use Rattle.columns.specs.Columns.{used_of};
 ghost use Rattle.places.specs.Open.{open_count, place_in};
 ghost use Rattle.desk.specs.Sound.{sound};
 ghost use Rattle.desk.specs.Turns.{view_at, spoiled_at, spoiled, mark as mark·spec};
-ghost use Rattle.words.specs.Words.{numbers_at, statements_at, marks_at, all_words, desk_of, desk_in, words_of};
+ghost use Rattle.words.specs.Words.{all_words, desk_of, desk_in, words_of};
 
-use columns::{Column, Limits, Lists};
+use columns::{LentDesk, Limits};
 use desk::Desk;
 
 // Where the columns begin among the words: the next number is the first, and behind it come the numbers, the statements,
@@ -34,208 +35,149 @@ impl Layout {
 
 pub type Words = [u32; Layout::WORDS];
 
+// The N words from `at` on, lent where they lie.
+fn part<const N: usize>(words: &Words, at: usize) -> &[u32; N]
+    requires { at + N ≤ all_words }
+    ensures { result.now ≡ take N (drop at words.now) }
+{
+    let end = at + N;
+    words[at..end].as_array().unwrap()
+}
+
+// The desk that the words say, lent by its columns.
+fn lent(words: &Words) -> LentDesk
+    ensures { desk_of result.next result.numbers.now result.statements.now result.marks.now result.lists.now ≡ desk_in words.now }
+{
+    LentDesk {
+        next: words[0],
+        numbers: part(words, Layout::NUMBERS),
+        statements: part(words, Layout::STATEMENTS),
+        marks: part(words, Layout::MARKS),
+        lists: part(words, Layout::LISTS),
+    }
+}
+
 // Whether the desk that the words say is sound.
-pub fn is_sound(words: &[u32]) -> bool
-    requires { length words.now ≡ all_words }
+pub fn is_sound(words: &Words) -> bool
     ensures { result ≡ sound (desk_in words.now) }
 {
-    desk::columns_sound(
-        words[0],
-        &words[Layout::NUMBERS..Layout::STATEMENTS],
-        &words[Layout::STATEMENTS..Layout::MARKS],
-        &words[Layout::MARKS..Layout::LISTS],
-        &words[Layout::LISTS..Layout::WORDS],
-    )
+    desk::columns_sound(lent(words))
 }
 
 // The number that the next session gets.
-pub fn next(words: &[u32]) -> u32
-    requires { length words.now ≡ all_words }
+pub fn next(words: &Words) -> u32
     ensures { result ≡ (desk_in words.now).next }
 {
     words[0]
 }
 
 // How many sessions are open.
-pub fn open_count(words: &[u32]) -> usize
-    requires { length words.now ≡ all_words }
+pub fn open_count(words: &Words) -> usize
     ensures { (result ≡ open_count (desk_in words.now).numbers) × (result ≤ sessions) }
 {
-    places::open_count(&words[Layout::NUMBERS..Layout::STATEMENTS])
+    places::open_count(lent(words).numbers)
 }
 
-// The place at which session x stands; where it stands nowhere, 16.
-pub fn find(words: &[u32], x: u64) -> usize
-    requires { length words.now ≡ all_words }
-    ensures { (result ≡ place_in x (desk_in words.now).numbers) × (result ≤ sessions) }
+// The place at which session x stands, if it stands at one.
+pub fn find(words: &Words, x: u64) -> Option<usize>
+    ensures { result ≡ found_below sessions (place_in x (desk_in words.now).numbers) }
 {
-    places::find(&words[Layout::NUMBERS..Layout::STATEMENTS], x)
+    places::find(lent(words).numbers, x)
 }
 
 // The statement of the session at place k.
-pub fn statement(words: &[u32], k: usize) -> u32
-    requires { (length words.now ≡ all_words) × (k < sessions) }
+pub fn statement(words: &Words, k: usize) -> u32
+    requires { k < sessions }
     ensures { result ≡ get_or (desk_in words.now).statements k 0 }
 {
     words[Layout::STATEMENTS + k]
 }
 
 // Whether the session at place k is spoiled.
-pub fn is_spoiled(words: &[u32], k: usize) -> bool
-    requires { (length words.now ≡ all_words) × (k < sessions) }
+pub fn is_spoiled(words: &Words, k: usize) -> bool
+    requires { k < sessions }
     ensures { result ≡ spoiled_at k (desk_in words.now) }
 {
     words[Layout::MARKS + k] == Limits::SPOILED
 }
 
 // "the desk marks that session spoiled": the one at place k. This one word changes.
-pub fn spoil(words: &mut [u32], k: usize)
-    requires { (length words.old ≡ all_words) × (k < sessions) }
-    ensures { (desk_in words.new ≡ spoiled k (desk_in words.old)) × (length words.new ≡ all_words) }
+pub fn spoil(words: &mut Words, k: usize)
+    requires { k < sessions }
+    ensures { desk_in words.new ≡ spoiled k (desk_in words.old) }
 {
     words[Layout::MARKS + k] = Limits::SPOILED;
 }
 
-// How many places of a list are used, before the first unused one.
-fn used(list: &[u32]) -> usize
-    requires { length list.now ≡ members }
-    ensures { (result ≡ used_in list.now) × (result ≤ members) }
-{
-    let mut n = 0;
-    while n < Limits::MEMBERS {
-        if list[n] == 0 {
-            return n;
-        }
-        n += 1;
-    }
-    n
-}
-
 // The numbers open when the session at place k began, lent where they lie: the used places of its list, since in a sound desk an
 // unused one has nothing behind it.
-pub fn list<'a>(words: &'a [u32], k: usize) -> &'a [u32]
-    requires { (length words.now ≡ all_words) × (k < sessions) }
+pub fn list(words: &Words, k: usize) -> &[u32]
+    requires { k < sessions }
     ensures { result.now ≡ used_of (view_at k (desk_in words.now)).list }
 {
-    let at = Layout::LISTS + k * Limits::MEMBERS;
-    let end = at + Limits::MEMBERS;
-    let n = used(&words[at..end]);
-    let last = at + n;
-    &words[at..last]
+    let list: &[u32; Limits::MEMBERS] = part(words, Layout::LISTS + k * Limits::MEMBERS);
+    let used = list.iter().position(|member| *member == 0);
+    &list[..used.unwrap_or(Limits::MEMBERS)]
 }
 
 // The mark of the desk that the words say.
-pub fn mark(words: &[u32]) -> u32
-    requires { length words.now ≡ all_words }
+pub fn mark(words: &Words) -> u32
     ensures { result ≡ mark·spec (desk_in words.now) }
 {
-    columns::mark(
-        words[0],
-        &words[Layout::NUMBERS..Layout::STATEMENTS],
-        &words[Layout::LISTS..Layout::WORDS],
-    )
-}
-
-fn column_in(words: &[u32], at: usize) -> Column
-    requires { at + sessions ≤ length words.now }
-    ensures { result ≡ take sessions (drop at words.now) }
-{
-    let mut column = [0; Limits::SESSIONS];
-    let mut i = 0;
-    while i < Limits::SESSIONS {
-        column[i] = words[at + i];
-        i += 1;
-    }
-    column
-}
-
-fn lists_in(words: &[u32], at: usize) -> Lists
-    requires { at + places ≤ length words.now }
-    ensures { result ≡ take places (drop at words.now) }
-{
-    let mut lists = [0; Limits::PLACES];
-    let mut i = 0;
-    while i < Limits::PLACES {
-        lists[i] = words[at + i];
-        i += 1;
-    }
-    lists
+    let LentDesk {
+        next,
+        numbers,
+        lists,
+        ..
+    } = lent(words);
+    columns::mark(next, numbers, lists)
 }
 
 // The desk that the words say.
-pub fn desk_in(words: &[u32]) -> Desk
-    requires { length words.now ≡ all_words }
+pub fn desk_in(words: &Words) -> Desk
     ensures { result ≡ desk_in words.now }
 {
-    let numbers = column_in(words, Layout::NUMBERS);
-    let statements = column_in(words, Layout::STATEMENTS);
-    let marks = column_in(words, Layout::MARKS);
-    let lists = lists_in(words, Layout::LISTS);
-    Desk {
-        next: words[0],
+    let LentDesk {
+        next,
         numbers,
         statements,
         marks,
         lists,
+    } = lent(words);
+    Desk {
+        next,
+        numbers: *numbers,
+        statements: *statements,
+        marks: *marks,
+        lists: *lists,
     }
 }
 
-fn put_part(words: &mut [u32], at: usize, part: &[u32])
-    requires { at + length part.now ≤ length words.old }
+// Stores a part of the desk from `at` on.
+fn put_part(words: &mut Words, at: usize, part: &[u32])
+    requires { at + length part.now ≤ all_words }
     ensures { words.new ≡ sets words.old at part.now }
 {
-    let mut i = 0;
-    while i < part.len() {
-        words[at + i] = part[i];
-        i += 1;
-    }
+    let end = at + part.len();
+    words[at..end].copy_from_slice(part);
 }
 
-// Writes the columns that have a place for each session, one behind the other. Each has 16.
-fn put_columns<'a>(
-    words: &mut [u32],
-    numbers: &'a Column,
-    statements: &'a Column,
-    marks: &'a Column,
-)
-    requires { length words.old ≡ all_words }
-    ensures stored { words.new ≡ sets (sets (sets words.old numbers_at numbers.now) statements_at statements.now) marks_at marks.now }
-    ensures long { (length numbers.now ≡ sessions) × (length statements.now ≡ sessions) × (length marks.now ≡ sessions) }
+// Writes a desk as words, which say that desk.
+pub fn put_desk(words: &mut Words, desk: &Desk)
+    ensures { (words.new ≡ words_of desk.now) × (desk_in words.new ≡ desk.now) }
 {
-    put_part(words, Layout::NUMBERS, numbers);
-    put_part(words, Layout::STATEMENTS, statements);
-    put_part(words, Layout::MARKS, marks);
+    words[0] = desk.next;
+    put_part(words, Layout::NUMBERS, &desk.numbers);
+    put_part(words, Layout::STATEMENTS, &desk.statements);
+    put_part(words, Layout::MARKS, &desk.marks);
+    put_part(words, Layout::LISTS, &desk.lists);
 }
 
-// Writes a desk, lent by its columns, as words, which say that desk.
-pub fn put_desk<'a>(
-    words: &mut [u32],
-    next: u32,
-    numbers: &'a Column,
-    statements: &'a Column,
-    marks: &'a Column,
-    lists: &'a Lists,
-)
-    requires { length words.old ≡ all_words }
-    ensures { (words.new ≡ words_of (desk_of next numbers.now statements.now marks.now lists.now)) × (desk_in words.new ≡ desk_of next numbers.now statements.now marks.now lists.now) }
-{
-    words[0] = next;
-    put_columns(words, numbers, statements, marks);
-    put_part(words, Layout::LISTS, lists);
-}
-
-// A desk's words.
+// A desk's words. No From says it: the words are the array that the C interface lends, and no type of this crate.
 pub fn words_of(desk: Desk) -> Words
     ensures { (result ≡ words_of desk) × (desk_in result ≡ desk) }
 {
     let mut words = [0; Layout::WORDS];
-    put_desk(
-        &mut words,
-        desk.next,
-        &desk.numbers,
-        &desk.statements,
-        &desk.marks,
-        &desk.lists,
-    );
+    put_desk(&mut words, &desk);
     words
 }

@@ -49,7 +49,7 @@ use Rattle.sweeping.specs.Sweeping.{sweep_rule, treated}
 use Rattle.rows.specs.Rows.{delete_refusal, delete_rule, insert_refusal, insert_rule, read_refusal, read_rule, refused_desk, update_refusal, update_rule, updated}
 use Rattle.lines.specs.Span.{lacks, parts}
 use Rattle.numeral.specs.Numeral.{body_in, digits_alone, glyph_of, hex_alone, hex_of, is_body, nibble_of, number_in, numeral_of, pairs, said_from, spelled}
-use Rattle.line.specs.Line.{command_of, longest as longest-line, same_as, verb_in, verb_of, word_of}
+use Rattle.line.specs.Line.{call_in, command_of, longest as longest-line, verb_in, verb_of, word_of}
 use Rattle.reply.specs.Reply.{answer_line, longest as longest-answer, tabbed}
 use Rattle.calls.specs.Calls.{Left, left, bare, withdraw_leaves, sweep_leaves}
 use Rattle.playing.specs.Playing.{line_of, play_rule}
@@ -136,7 +136,7 @@ swept_1 = carried (lent_to (fresh_desk 4)) (areas (data_of 0) undo_free (status_
 
 -- every definition that they are computed with; of a checksum only that it is the same
 unfoldable rules : ℕ
-unfolding bytes run input_of output_of start lent_to headed data_of undo_of undo_free status_of updated_2 spoiled_3 withdrawn_3 swept_1 all_below count_below first_from bytes_of digits little part length_ok lengths_ok record_at bits_in put_bits_in put_status status_at at_entry lead_of leads pointer_to well_formed clear_entry copy_body_at entry_at entry_of put_copy put_entry body_at clear_slot put_meta put_slot slot_at slot_of counted in_use items_in touched page_at put_field blank_page fresh_page mark_of smallest without is_open open_count place_in ascending follows placed session_sound fresh_desk sound sound_columns begun closed mark spoiled spoiled_at view_at conflict_of is_dead of_another committed earlier known listed sees standing there among chain_from chain_of unfit body_of first_in walk_rule reserved doubtful in_doubt versions_looked_at some_in doubts with_entry with_meta with_slot deleted inserted updated_data updated_undo cut_copy cut_slot swept_entry swept_slot lowest_empty lowest_free breaks misses no_row says format_refusal format_rule formatted fresh_area begin_refusal begin_rule commit_refusal commit_rule own undone_row broken_row swept_all swept_behind swept_row swept_versions treated delete_refusal delete_rule insert_refusal insert_rule read_refusal read_rule refused_desk update_refusal update_rule updated parts body_in digits_alone glyph_of hex_alone hex_of is_body nibble_of number_in numeral_of pairs said_from spelled command_of longest-line same_as verb_in verb_of word_of answer_line longest-answer tabbed play_rule answers data_lent fresh_footing lent lined named rest_of rested run_lines run_rule stepped left_in undo_lent
+unfolding bytes run input_of output_of start lent_to headed data_of undo_of undo_free status_of updated_2 spoiled_3 withdrawn_3 swept_1 all_below count_below first_from bytes_of digits little part length_ok lengths_ok record_at bits_in put_bits_in put_status status_at at_entry lead_of leads pointer_to well_formed clear_entry copy_body_at entry_at entry_of put_copy put_entry body_at clear_slot put_meta put_slot slot_at slot_of counted in_use items_in touched page_at put_field blank_page fresh_page mark_of smallest without is_open open_count place_in ascending follows placed session_sound fresh_desk sound sound_columns begun closed mark spoiled spoiled_at view_at conflict_of is_dead of_another committed earlier known listed sees standing there among chain_from chain_of unfit body_of first_in walk_rule reserved doubtful in_doubt versions_looked_at some_in doubts with_entry with_meta with_slot deleted inserted updated_data updated_undo cut_copy cut_slot swept_entry swept_slot lowest_empty lowest_free breaks misses no_row says format_refusal format_rule formatted fresh_area begin_refusal begin_rule commit_refusal commit_rule own undone_row broken_row swept_all swept_behind swept_row swept_versions treated delete_refusal delete_rule insert_refusal insert_rule read_refusal read_rule refused_desk update_refusal update_rule updated parts body_in digits_alone glyph_of hex_alone hex_of is_body nibble_of number_in numeral_of pairs said_from spelled command_of longest-line call_in verb_in verb_of word_of answer_line longest-answer tabbed play_rule answers data_lent fresh_footing lent lined named rest_of rested run_lines run_rule stepped left_in undo_lent
 rules = 0
 
 -- what is left of the run behind line 7, 12, 13, 14, 15, 16

@@ -1,21 +1,15 @@
--- `crc::crc32c_more` meets its contract. The loop's invariant is `Going`, and its measure the bytes left. Assumes nothing.
+-- `crc::crc32c_more` meets its contract: the bytes are folded into the register, one after the other. Assumes nothing.
+use mathlib.Core.Path.{◌≡◌, ap, ◌∙◌}
+use Prim.Native.Nat.{ℕ}
 use borrow.Author.Rules.{rules}
-use Rattle.crc.proofs.CrcLaws.{going_start, going_next, going_end}
+use lib.Bits.{bit_xor}
+use Rattle.std.specs.List.{fold}
+use Rattle.crc.specs.Crc.{filled, byte_step, crc_more}
+use Rattle.crc.proofs.CrcLaws.{run_fold}
 use Rattle.crc.proofs.crc32c_more.Goals as goal
 
-pub loop-i-init : goal.loop-i-init
-loop-i-init c = going_start _ _ c.register-c.ensures.1
-
-pub byte-c-requires : goal.byte-c-requires
-byte-c-requires c =
-    (c.of_bytes-t.ensures, c.loop-i.invariant.small)
-
-pub loop-i-preserved : goal.loop-i-preserved
-loop-i-preserved c = going_next _ c.loop-i.invariant (search rules) c.byte-c.ensures
-
-pub checksum-requires : goal.checksum-requires
-checksum-requires c = c.loop-i.invariant.small
-
 pub returns : goal.returns
+unfolding crc_more
 returns c =
-    going_end _ _ c.loop-i.invariant (search rules) c.register-c.ensures.0 c.checksum.ensures
+    let folded : c.fold.result ≡ fold byte_step (bit_xor c.args.crc filled) c.args.s.now = search rules in
+    ap (λ (x : ℕ). bit_xor x filled) (folded ∙ run_fold _ c.args.s.now)

@@ -7,10 +7,10 @@ use Rattle.feeding.specs.Feeding.{stand}
 use Rattle.feeding.proofs.Served.{Sofar}
 use Rattle.feeding.proofs.serve.Given as goal
 
-abbrev pub invariant-loop-at : goal.invariant-loop-at
-invariant-loop-at g l =
+abbrev pub invariant-loop-s : goal.invariant-loop-s
+invariant-loop-s g l =
     (l.at ≤ length l.text)
     × Sofar l.last (length l.fn.out) (stand (carried l.fn.footing (areas l.fn.«data» l.fn.undo l.fn.status)) l.text) (stand (carried l.s (areas l.«data» l.undo l.status)) (drop l.at l.text))
 
-abbrev pub decreases-loop-at : goal.decreases-loop-at
-decreases-loop-at g l = length l.text + 1 - l.at
+abbrev pub decreases-loop-s : goal.decreases-loop-s
+decreases-loop-s g l = length l.text + 1 - l.at

@@ -1,11 +1,7 @@
 -- `freeing::tally` meets its contract. The loop's invariant: the first p pages are tallied. Assumes nothing.
 use mathlib.Core.Path.{◌≡◌}
-use Prim.Native.Nat.{◌-◌, ◌≤◌}
 use Rattle.freeing.specs.Tally.{tallied_to}
 use Rattle.freeing.proofs.tally.Given as goal
 
 abbrev pub invariant-loop-p : goal.invariant-loop-p
-invariant-loop-p l = (l.p ≤ l.pages) × (l.s ≡ tallied_to l.k l.due l.p l.initial.s)
-
-abbrev pub decreases-loop-p : goal.decreases-loop-p
-decreases-loop-p l = l.pages - l.p
+invariant-loop-p l = l.s ≡ tallied_to l.k l.due l.p l.initial.s

@@ -1,54 +1,54 @@
--- `keep::area_right` meets its contract. The invariant: the first p pages are right. Assumes nothing.
-use mathlib.Core.Path.{◌≡◌, refl, sym, ◌∙◌}
-use Prim.Native.Nat.{◌+◌, ◌/◌}
+-- `keep::area_right` meets its contract: the fours, and then the pages behind them. Assumes nothing.
+use mathlib.Core.Path.{◌≡◌, refl, sym, ap, ◌∙◌}
+use mathlib.Core.Bool.{Bool, true, false, ◌&&◌}
+use Prim.Native.Nat.{ℕ, ◌*◌, ◌-◌, ◌/◌}
 use native.Mathlib.Omega.{arith}
-use lib.ListN.{length}
+use borrow.Author.Tests.{tests}
+use Rattle.std.proofs.Common.{rules}
+use Rattle.std.specs.List.{list_all, range_with_len}
+use Rattle.std.proofs.lemmas.Iterator.{YieldsList-from_range}
+use Rattle.std.proofs.lemmas.Iterator.Search.{all_from_yields_List}
 use Rattle.ground.specs.Range.{all_below}
-use Rattle.ground.proofs.Ranges.{all_more, all_four, all_short, all_fails}
+use Rattle.ground.proofs.Ranges.{all_short}
 use Rattle.whole.specs.Abreast.{right_at}
 use Rattle.keep.specs.Whole.{area_right}
-use Rattle.keep.proofs.Pages.{right_at_lent}
+use Rattle.keep.proofs.Ranges.{all_range, all_fours, four}
 use Rattle.keep.proofs.area_right.Goals as goal
-use Rattle.keep.proofs.area_right.Goals.{After-four_right, After-is_right}
+use Rattle.keep.proofs.area_right.Goals.{After-all, After-all-then-all}
 
-pub loop-p-init : goal.loop-p-init
+-- what was answered of the pages by four, and of those behind them
+fours_told : (c : goal.After-all) → c.all.result ≡ all_below (right_at c.args.k c.args.s.now) (4 * (c.pages-n.result / 4))
 unfolding all_below
-loop-p-init c = (omega arith, refl)
+fours_told c =
+    let m = c.pages-n.result / 4 in
+    let f = right_at c.args.k c.args.s.now in
+    all_from_yields_List (λ (q : ℕ). four f (4 * q)) _ _ _ c.all.ensures.ran (YieldsList-from_range 0 m m refl (omega arith)) (λ x b q k. search (rules, tests))
+    ∙ all_fours f 0 m (4 * m) (omega arith)
 
--- what was answered of the four pages looked at, and of the page
-told_four : (c : goal.After-four_right)
-    → all_below (right_at c.args.k c.args.s.now) (c.loop-p.p + 4) ≡ c.four_right.result
-told_four c =
-    all_four (right_at c.args.k c.args.s.now) c.loop-p.p c.loop-p.invariant.1
-    ∙ sym c.four_right.ensures
+rest_told : (c : goal.After-all-then-all)
+    → let m = 4 * (c.pages-n.result / 4) in
+    c.all-then-all.result ≡ list_all (right_at c.args.k c.args.s.now) (range_with_len m (c.pages-n.result - m))
+rest_told c =
+    let m = 4 * (c.pages-n.result / 4) in
+    let n = c.pages-n.result in
+    all_from_yields_List (right_at c.args.k c.args.s.now) _ _ _ c.all-then-all.ensures.ran (YieldsList-from_range m n (n - m) refl refl) (λ x b q k. search (rules, tests))
 
-told : (c : goal.After-is_right)
-    → right_at c.args.k c.args.s.now c.loop-p.p ≡ c.is_right.result
-told c = right_at_lent _ _ _ c.is_right.ensures
-
-pub returns-then-not-four_right : goal.returns-then-not-four_right
+pub returns-else-all : goal.returns-else-all
 unfolding area_right
-returns-then-not-four_right c =
-    sym
-    (all_short (right_at c.args.k c.args.s.now) (c.loop-p.p + 4) (length c.args.s.now / 8192) (omega arith)
-    (told_four (goal.at.returns-then-not-four_right c).After-four_right ∙ c.if-not-four_right.true))
+returns-else-all c =
+    let n = c.pages-n.result in
+    let f = right_at c.args.k c.args.s.now in
+    let e : all_below f n ≡ false = all_short f (4 * (n / 4)) n (omega arith) (sym (fours_told (goal.at.returns-else-all c).After-all) ∙ c.if-all.false) in
+    c.if-all.false ∙ sym e ∙ ap (all_below f) c.pages-n.ensures
 
-pub loop-p-preserved-then-n-p-ge4 : goal.loop-p-preserved-then-n-p-ge4
-loop-p-preserved-then-n-p-ge4 c =
-    (omega arith, told_four (goal.at.loop-p-preserved-then-n-p-ge4 c).After-four_right ∙ c.if-not-four_right.false)
-
-pub returns-then-not-is_right : goal.returns-then-not-is_right
+pub returns-then-all : goal.returns-then-all
 unfolding area_right
-returns-then-not-is_right c =
-    sym (all_fails (right_at c.args.k c.args.s.now) (length c.args.s.now / 8192) c.loop-p.p (omega arith) (told (goal.at.returns-then-not-is_right c).After-is_right ∙ c.if-not-is_right.true))
-
-pub loop-p-preserved : goal.loop-p-preserved
-loop-p-preserved c =
-    (omega arith, all_more (right_at c.args.k c.args.s.now) c.loop-p.p c.loop-p.invariant.1 (told (goal.at.loop-p-preserved c).After-is_right ∙ c.if-not-is_right.false))
-
-pub returns : goal.returns
-unfolding area_right
-returns c =
-    let s = c.args.s.now in
-    let e : c.loop-p.p ≡ length s / 8192 = omega arith in
-    rw (← e) (sym c.loop-p.invariant.1)
+returns-then-all c =
+    let n = c.pages-n.result in
+    let m = 4 * (n / 4) in
+    let f = right_at c.args.k c.args.s.now in
+    let e : all_below f m ≡ true = sym (fours_told (goal.at.returns-then-all c).After-all) ∙ c.if-all.true in
+    rest_told c
+    ∙ ap (λ (b : Bool). b && list_all f (range_with_len m (n - m))) (sym e)
+    ∙ all_range f m (n - m) n (omega arith)
+    ∙ ap (all_below f) c.pages-n.ensures

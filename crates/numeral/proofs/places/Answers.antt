@@ -1,13 +1,13 @@
--- `numeral::places` meets its contract. The invariant is `Counting`; what is left of the number falls. Assumes nothing.
+-- `numeral::places` meets its contract. Assumes nothing.
+use mathlib.Core.Path.{sym}
 use native.Mathlib.Omega.{arith}
-use Rattle.numeral.proofs.Numbers.{counting_start, counting_next, counting_end}
+use Rattle.numeral.proofs.Numbers.{numeral_long, numeral_zero}
 use Rattle.numeral.proofs.places.Goals as goal
 
-pub loop-rest-init : goal.loop-rest-init
-loop-rest-init c = counting_start _ (omega arith)
+pub returns-in-Some : goal.returns-in-Some
+returns-in-Some c =
+    let power = c.in-Some.ensures in
+    (sym (numeral_long _ _ power.bound power.power_le power.next_power_gt), omega (arith, power.bound))
 
-pub loop-rest-preserved : goal.loop-rest-preserved
-loop-rest-preserved c = counting_next _ _ _ c.loop-rest.invariant c.loop-rest-test.true
-
-pub returns : goal.returns
-returns c = counting_end _ _ _ c.loop-rest.invariant c.loop-rest-test.false
+pub returns-in-None : goal.returns-in-None
+returns-in-None c = (sym (numeral_zero _ (c.in-None.ensures).none), omega arith)

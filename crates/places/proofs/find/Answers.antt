@@ -1,23 +1,19 @@
--- `places::find` meets its contract. The loop's invariant: the search from here on equals the search from the start. Assumes
--- nothing.
-use mathlib.Core.Path.{refl, sym, ◌∙◌}
-use native.Mathlib.Omega.{arith}
-use borrow.Author.Tests.{eq-eqb, ne_eqb}
-use Rattle.ground.proofs.Ranges.{first_here, first_next, first_end}
+-- `places::find` meets its contract: a chain's position among all places is the search by index. Assumes nothing.
+use mathlib.Core.Path.{◌≡◌, ◌∙◌}
+use lib.ListN.{length}
+use lib.Dec.{eqb}
+use borrow.Author.Rules.{rules}
+use borrow.Author.Tests.{tests}
+use Rattle.std.proofs.lemmas.Iterator.{YieldsList-from_slice}
+use Rattle.std.proofs.lemmas.Iterator.Search.{position_from_yields_List}
+use Rattle.columns.specs.Limits.{sessions}
 use Rattle.places.specs.Open.{place_in}
+use Rattle.places.proofs.Found.{position_found}
 use Rattle.places.proofs.find.Goals as goal
 
-pub loop-k-init : goal.loop-k-init
-unfolding place_in
-loop-k-init c = (omega arith, refl)
-
-pub returns-then-wide-x : goal.returns-then-wide-x
-returns-then-wide-x c =
-    (sym (first_here _ _ _ (omega arith) (eq-eqb _ _ (sym c.wide.ensures ∙ c.if-wide-x.true))) ∙ c.loop-k.invariant.1, omega arith)
-
-pub loop-k-preserved : goal.loop-k-preserved
-loop-k-preserved c =
-    (omega arith, sym (first_next _ _ _ (omega arith) (ne_eqb _ _ (λ e. c.if-wide-x.false (c.wide.ensures ∙ e)))) ∙ c.loop-k.invariant.1)
-
 pub returns : goal.returns
-returns c = (sym (first_end _ _ _ c.loop-k-test.false) ∙ c.loop-k.invariant.1, omega arith)
+unfolding place_in
+returns c =
+    let long : length c.args.numbers.now ≡ sessions = search rules in
+    position_from_yields_List (λ number. eqb number c.args.x) _ _ _ c.position.ensures.ran (YieldsList-from_slice c.args.numbers.now cc) (λ x b q k. search (rules, tests))
+    ∙ position_found (λ number. eqb number c.args.x) _ _ long

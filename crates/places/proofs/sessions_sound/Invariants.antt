@@ -2,7 +2,6 @@
 -- nothing.
 use mathlib.Core.Path.{◌≡◌}
 use mathlib.Core.Bool.{true}
-use Prim.Native.Nat.{◌-◌, ◌≤◌}
 use Rattle.ground.specs.Range.{all_below}
 use Rattle.columns.specs.Limits.{sessions}
 use Rattle.places.specs.Places.{ascending, session_sound}
@@ -10,9 +9,4 @@ use Rattle.places.proofs.sessions_sound.Given as goal
 
 abbrev pub invariant-loop-k : goal.invariant-loop-k
 invariant-loop-k l =
-    (l.k ≤ sessions)
-    × (ascending l.next l.numbers 0 sessions ≡ true)
-    × (all_below (session_sound l.numbers l.statements l.marks l.lists) l.k ≡ true)
-
-abbrev pub decreases-loop-k : goal.decreases-loop-k
-decreases-loop-k l = sessions - l.k
+    (ascending l.next l.numbers 0 sessions ≡ true) × (all_below (session_sound l.numbers l.statements l.marks l.lists) l.k ≡ true)

@@ -12,5 +12,5 @@ pub returns : goal.returns
 returns c =
     let start = c.args in
     let came = areas start.«data».now start.undo.now start.status.now in
-    let done = c.begin-b.ensures.does in
-    on_desk_lem (begin_leaves came) c.words_of-w.ensures.1 (plays _ _ _ _ _ _ _ (c.code-code.ensures ∙ ap (λ (y : ℕ × ℕ × Desk). y.0) done.answers) (ap (λ (y : ℕ × ℕ × Desk). number y.1) done.answers) (c.desk_left-desk.ensures ∙ ap (λ (y : ℕ × ℕ × Desk). y.2) done.answers) (ap (areas start.«data».now start.undo.now) done.leaves) c.numbered-end.ensures)
+    let done = c.begin-begun.ensures.does in
+    on_desk_lem (begin_leaves came) c.words_of-w.ensures.1 (plays _ _ _ _ _ _ _ (c.code-code.ensures ∙ ap (λ (y : ℕ × ℕ × Desk). y.0) done.answers) (ap number c.unwrap_or.ensures ∙ ap (λ (y : ℕ × ℕ × Desk). number y.1) done.answers) (c.desk_left-desk.ensures ∙ ap (λ (y : ℕ × ℕ × Desk). y.2) done.answers) (ap (areas start.«data».now start.undo.now) done.leaves) c.numbered-end.ensures)

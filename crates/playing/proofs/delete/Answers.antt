@@ -12,5 +12,5 @@ pub returns : goal.returns
 returns c =
     let start = c.args in
     let came = areas start.«data».now start.undo.now start.status.now in
-    let done = c.delete-a.ensures.does in
+    let done = c.delete-deleted.ensures.does in
     on_desk_lem (λ (d : Desk). delete_leaves came d start.session start.row) c.words_of-w.ensures.1 (plays _ _ _ _ _ _ _ (c.code-code.ensures ∙ ap (λ (y : ℕ × Desk). y.0) done.answers) refl (c.desk_left-desk.ensures ∙ ap (λ (y : ℕ × Desk). y.1) done.answers) (ap (λ (d : List ℕ). areas d start.undo.now start.status.now) done.leaves) c.plain-end.ensures)

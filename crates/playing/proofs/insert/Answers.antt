@@ -14,5 +14,5 @@ returns c =
     let start = c.args in
     let came = areas start.«data».now start.undo.now start.status.now in
     let same = c.words_of-w.ensures.1 in
-    let done = c.insert-i.ensures in
-    on_desk_lem (λ (d : Desk). insert_leaves came d start.session start.body.now) same (plays _ _ _ _ _ _ _ (c.code-code.ensures ∙ ap (λ (y : ℕ × ℕ). y.0) done.answers) (ap (λ (y : ℕ × ℕ). number y.1) done.answers) (sym same) (ap (λ (d : List ℕ). areas d start.undo.now start.status.now) done.leaves) c.numbered-end.ensures)
+    let done = c.insert-inserted.ensures in
+    on_desk_lem (λ (d : Desk). insert_leaves came d start.session start.body.now) same (plays _ _ _ _ _ _ _ (c.code-code.ensures ∙ ap (λ (y : ℕ × ℕ). y.0) done.answers) (ap number c.unwrap_or.ensures ∙ ap (λ (y : ℕ × ℕ). number y.1) done.answers) (sym same) (ap (λ (d : List ℕ). areas d start.undo.now start.status.now) done.leaves) c.numbered-end.ensures)

@@ -1,17 +1,15 @@
 -- `playing::open` meets its contract: the call, its line, and the desk that stays. Assumes nothing.
 use Prim.Native.Nat.{ℕ}
 use mathlib.Core.Path.{refl, sym, ap, ◌∙◌}
+use Rattle.ground.specs.Refuse.{kept}
+use Rattle.answer.proofs.Codes.{kept_answered}
 use Rattle.desk.specs.declared.Desk.{Desk}
-use Rattle.ground.proofs.Refusals.{kept_new, kept_old}
+use Rattle.desk.specs.Desk.{no_desk}
 use Rattle.playing.proofs.Playings.{plays}
 use Rattle.playing.proofs.open.Goals as goal
 
-pub returns-then-code-eq0 : goal.returns-then-code-eq0
-returns-then-code-eq0 c =
-    let done = c.open-o.ensures in
-    plays _ _ _ _ _ _ _ (c.code-code.ensures ∙ ap (λ (y : ℕ × Desk). y.0) done) refl (ap (λ (y : ℕ × Desk). y.1) done ∙ kept_new _ _ _ (sym (c.code-code.ensures ∙ ap (λ (y : ℕ × Desk). y.0) done) ∙ c.if-code-eq0.true)) refl c.plain-end.ensures
-
-pub returns-else-code-eq0 : goal.returns-else-code-eq0
-returns-else-code-eq0 c =
-    let done = c.open-o.ensures in
-    plays _ _ _ _ _ _ _ (c.code-code.ensures ∙ ap (λ (y : ℕ × Desk). y.0) done) refl (kept_old _ _ _ (λ e. c.if-code-eq0.false ((c.code-code.ensures ∙ ap (λ (y : ℕ × Desk). y.0) done) ∙ e))) refl c.plain-end.ensures
+pub returns : goal.returns
+returns c =
+    let done = c.open-opened.ensures in
+    let stays = sym (kept_answered c.open-opened.result no_desk c.args.desk) ∙ ap (λ (y : ℕ × Desk). kept y.0 y.1 c.args.desk) done in
+    plays _ _ _ _ _ _ _ (c.code-code.ensures ∙ ap (λ (y : ℕ × Desk). y.0) done) refl (c.unwrap_or.ensures ∙ stays) refl c.plain-end.ensures

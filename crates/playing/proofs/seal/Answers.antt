@@ -10,5 +10,5 @@ returns c =
     let start = c.args in
     let came = areas start.«data».now start.undo.now start.status.now in
     let same = c.words_of-w.ensures.1 in
-    let done = c.seal-a.ensures in
+    let done = c.seal-sealed.ensures in
     on_desk_lem (seal_leaves came) same (plays _ _ _ _ _ _ _ (c.code-code.ensures ∙ done.answers) refl (sym same) done.leaves c.plain-end.ensures)

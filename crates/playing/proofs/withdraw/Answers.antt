@@ -11,5 +11,5 @@ pub returns : goal.returns
 returns c =
     let start = c.args in
     let came = areas start.«data».now start.undo.now start.status.now in
-    let done = c.withdraw-a.ensures.does in
+    let done = c.withdraw-withdrawn.ensures.does in
     on_desk_lem (λ (d : Desk). withdraw_leaves came d start.session) c.words_of-w.ensures.1 (plays _ _ _ _ _ _ _ (c.code-code.ensures ∙ ap (λ (y : ℕ × Desk). y.0) done.answers) refl (c.desk_left-desk.ensures ∙ ap (λ (y : ℕ × Desk). y.1) done.answers) done.leaves c.plain-end.ensures)

@@ -2,19 +2,14 @@
 -- start; an entry that was freed need not be remembered as passed. Assumes nothing.
 use mathlib.Core.Path.{◌≡◌}
 use mathlib.Core.List.{[]}
-use lib.ListN.{length}
+use Prim.Native.Nat.{◌-◌}
 use Rattle.kind.specs.Kind.{entries}
 use Rattle.kind.specs.Areas.{both}
 use Rattle.chain.specs.Chain.{chain_from}
 use Rattle.putback.specs.PutBack.{taken_back}
 use Rattle.putback.proofs.take_back.Given as goal
 
-abbrev pub invariant-loop-left : goal.invariant-loop-left
-invariant-loop-left l =
-    (length l.data ≡ length l.initial.data)
-    × (length l.undo ≡ length l.initial.undo)
-    × (taken_back l.number l.k l.r (chain_from l.undo l.r l.left [] l.ptr).versions (both l.data l.undo)
-    ≡ taken_back l.number l.k l.r (chain_from l.initial.undo l.r (entries l.initial.undo) [] l.first).versions (both l.initial.data l.initial.undo))
-
-abbrev pub decreases-loop-left : goal.decreases-loop-left
-decreases-loop-left l = l.left
+abbrev pub invariant-loop : goal.invariant-loop
+invariant-loop l =
+    taken_back l.since.number l.since.statement l.r (chain_from l.undo l.r (l.end - l.counter) [] l.ptr).versions (both l.data l.undo)
+    ≡ taken_back l.since.number l.since.statement l.r (chain_from l.initial.undo l.r (entries l.initial.undo) [] l.first).versions (both l.initial.data l.initial.undo)

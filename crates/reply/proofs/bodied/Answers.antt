@@ -1,11 +1,11 @@
 -- `reply::bodied` meets its contract: a zero, the number and the body behind tabs, and a newline, or the code alone. Assumes nothing.
-use mathlib.Core.Path.{sym, ◌∙◌}
+use mathlib.Core.Path.{sym}
 use mathlib.Core.List.{[], ◌∷◌}
 use native.Mathlib.Omega.{arith}
 use lib.ListN.{length-set}
 use Rattle.numeral.specs.Numeral.{numeral_of, hex_of}
 use Rattle.reply.specs.Reply.{longest}
-use Rattle.reply.proofs.Sayings.{number_within, body_within, says_append, says_byte, says_length, says_as, says_refused, says_fields, tabbed_two}
+use Rattle.reply.proofs.Sayings.{number_within, body_within, says_append, says_byte, says_as, says_refused, says_fields, tabbed_two}
 use Rattle.reply.proofs.bodied.Goals as goal
 
 pub returns-then-code-ne-DONE : goal.returns-then-code-ne-DONE
@@ -36,10 +36,6 @@ end-requires c =
       simp length-set at (number_within c.args.n c.number-e.ensures),
       body_within c.args.body.now c.requires.0 c.body_field-f.ensures,
     )
-
-pub shape_of-out : goal.shape_of-out
-shape_of-out c =
-    says_length c.end.ensures ∙ says_length c.body_field-f.ensures ∙ says_length c.number-e.ensures ∙ simp length-set
 
 pub returns : goal.returns
 unfolding longest

@@ -1,19 +1,12 @@
 -- `reply::body_field` meets its contract: a tab, and the body behind it. Assumes nothing.
-use mathlib.Core.Path.{sym, ap, ◌∙◌}
+use mathlib.Core.Path.{sym, ap}
 use Prim.Native.Nat.{ℕ, ◌+◌}
 use native.Mathlib.Omega.{arith}
-use lib.ListN.{length, length-set}
-use lib.Seq.{length-sets}
+use lib.ListN.{length-set}
 use Rattle.numeral.specs.Numeral.{hex_of}
 use Rattle.numeral.proofs.Laws.{hex_length}
 use Rattle.reply.proofs.Sayings.{says_append, says_byte, says_as, tabbed_one}
 use Rattle.reply.proofs.body_field.Goals as goal
-
-pub put_body-requires : goal.put_body-requires
-put_body-requires c = simp length-set (omega arith)
-
-pub shape_of-out : goal.shape_of-out
-shape_of-out c = ap length c.put_body.ensures ∙ simp (length-sets, length-set)
 
 pub returns : goal.returns
 returns c =

@@ -1,23 +1,16 @@
 -- `reply::number` meets its contract: a tab, and the number behind it. Assumes nothing.
-use mathlib.Core.Path.{sym, ap, ◌∙◌}
+use mathlib.Core.Path.{sym, ap}
 use Prim.Native.Nat.{ℕ, ◌+◌}
 use native.Mathlib.Omega.{arith}
-use lib.ListN.{length, length-set}
-use lib.Seq.{length-sets}
+use lib.ListN.{length-set}
 use Rattle.numeral.specs.Numeral.{numeral_of}
 use Rattle.numeral.proofs.Laws.{numeral_length}
 use Rattle.reply.proofs.Sayings.{says_append, says_byte, says_as, tabbed_one}
 use Rattle.reply.proofs.number.Goals as goal
 
-pub put_number-requires : goal.put_number-requires
-put_number-requires c = simp length-set (omega arith)
-
 pub overflow_add-result-2 : goal.overflow_add-result-2
 overflow_add-result-2 c =
     omega (arith, numeral_length c.args.n, c.put_number.ensures.counts)
-
-pub shape_of-out : goal.shape_of-out
-shape_of-out c = ap length c.put_number.ensures.leaves ∙ simp (length-sets, length-set)
 
 pub returns : goal.returns
 returns c =

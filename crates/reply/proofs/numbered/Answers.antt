@@ -1,11 +1,10 @@
 -- `reply::numbered` meets its contract: a zero, the number behind a tab, and a newline, or the code alone. Assumes nothing.
-use mathlib.Core.Path.{◌∙◌}
 use mathlib.Core.List.{[], ◌∷◌}
 use native.Mathlib.Omega.{arith}
 use lib.ListN.{length-set}
 use Rattle.numeral.specs.Numeral.{numeral_of}
 use Rattle.reply.specs.Reply.{longest}
-use Rattle.reply.proofs.Sayings.{number_within, says_append, says_byte, says_length, says_refused, says_fields}
+use Rattle.reply.proofs.Sayings.{number_within, says_append, says_byte, says_refused, says_fields}
 use Rattle.reply.proofs.numbered.Goals as goal
 
 pub returns-then-code-ne-DONE : goal.returns-then-code-ne-DONE
@@ -25,10 +24,6 @@ unfolding longest
 end-requires c =
     let field = c.number-e.ensures in
     omega (arith, simp length-set at (number_within c.args.n field))
-
-pub shape_of-out : goal.shape_of-out
-shape_of-out c =
-    says_length c.end.ensures ∙ says_length c.number-e.ensures ∙ simp length-set
 
 pub returns : goal.returns
 unfolding longest

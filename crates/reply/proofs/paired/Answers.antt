@@ -1,11 +1,11 @@
 -- `reply::paired` meets its contract: a zero, the numbers behind tabs, and a newline, or the code alone. Assumes nothing.
-use mathlib.Core.Path.{sym, ◌∙◌}
+use mathlib.Core.Path.{sym}
 use mathlib.Core.List.{[], ◌∷◌}
 use native.Mathlib.Omega.{arith}
 use lib.ListN.{length-set}
 use Rattle.numeral.specs.Numeral.{numeral_of}
 use Rattle.reply.specs.Reply.{longest}
-use Rattle.reply.proofs.Sayings.{number_within, says_append, says_byte, says_length, says_as, says_refused, says_fields, tabbed_two}
+use Rattle.reply.proofs.Sayings.{number_within, says_append, says_byte, says_as, says_refused, says_fields, tabbed_two}
 use Rattle.reply.proofs.paired.Goals as goal
 
 pub returns-then-code-ne-DONE : goal.returns-then-code-ne-DONE
@@ -34,10 +34,6 @@ end-requires c =
       simp length-set at (number_within c.args.n c.number-mid.ensures),
       number_within c.args.m c.number-last.ensures,
     )
-
-pub shape_of-out : goal.shape_of-out
-shape_of-out c =
-    says_length c.end.ensures ∙ says_length c.number-last.ensures ∙ says_length c.number-mid.ensures ∙ simp length-set
 
 pub returns : goal.returns
 unfolding longest

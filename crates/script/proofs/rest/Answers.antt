@@ -10,7 +10,7 @@ returns-then-at-end c = record { inside = (omega arith, omega arith); rests = re
 
 pub returns-then-last : goal.returns-then-last
 returns-then-last c =
-    record { inside = (omega arith, c.plain-made.ensures.within); rests = rest_unended _ _ _ _ _ _ c.requires.0 _ _ _ _ c.if-last.true c.if-at-end.false c.in_line.ensures c.code-code.ensures c.plain-made.ensures }
+    record { inside = (omega arith, c.plain-made.ensures.within); rests = rest_unended _ _ _ _ _ _ c.requires.0 _ _ _ _ c.if-last.true c.if-at-end.false c.in_line.ensures c.from-code.ensures c.plain-made.ensures }
 
 pub returns-then-end-at-le-LONGEST : goal.returns-then-end-at-le-LONGEST
 unfolding longest

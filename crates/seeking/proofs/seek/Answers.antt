@@ -1,18 +1,11 @@
--- `seeking::seek` meets its contract, by what the walk found. Assumes nothing.
-use denote.Enum.Declared.{tag_of, declared}
-use mathlib.Core.Path.{refl, sym}
-use Rattle.doubt.specs.contracts.Look.{enum}
-use Rattle.seeking.proofs.Seekings.{seek_outside, seek_none, seek_at}
-use borrow.Enum.Refused.{opened}
+-- `seeking::seek` meets its contract: what a walk without a version refuses. Assumes nothing.
+use mathlib.Core.Path.{◌∙◌}
+use native.Mathlib.Omega.{arith}
+use Rattle.std.proofs.lemmas.Result.{err_from_is_err_and}
+use Rattle.seeking.proofs.Seekings.{seek_none}
 use Rattle.seeking.proofs.seek.Goals as goal
 
-pub returns-then-row-rows : goal.returns-then-row-rows
-returns-then-row-rows c = sym (seek_outside _ _ _ _ _ c.rows.ensures c.if-row-rows.true)
-
-pub returns-in_default : goal.returns-in_default
-returns-in_default c =
-    seek_none _ _ _ _ _ c.rows.ensures c.if-row-rows.false (tag_of (declared enum)) (λ place n. refl) c.search-w.result (opened c.in_default.in_default-own.keys2) c.search-w.ensures c.none_found.ensures
-
-pub returns : goal.returns
-returns c =
-    seek_at _ _ _ _ _ c.rows.ensures c.if-row-rows.false _ _ c.search-w.ensures c.in-Found.is
+pub returns-in_err-walk : goal.returns-in_err-walk
+returns-in_err-walk c =
+    let refused = err_from_is_err_and c.from_residual.result c.from_residual.ensures.1 in
+    refused.1 ∙ seek_none _ _ _ _ _ c.rows.ensures (omega arith) c.search-walk.ensures c.in_err-walk.was refused.2

@@ -20,7 +20,7 @@ returns c =
     (λ (y : ℕ × ℕ × Desk). kept y.0 (words_of y.2) c.args.desk.now)
     (λ (y : ℕ × ℕ × Desk). y.1 ∷ [])
     _
-    c.begin-b.ensures.does
-    c.code.ensures
-    (kept_words _ _ c.begin-b.ensures.desks.0 c.begin-b.ensures.desks.1 _ (λ ne. ap (λ (y : ℕ × ℕ × Desk). y.2) c.begin-b.ensures.does.answers ∙ (begin_refused _ _ (λ e. ne (ap (λ (y : ℕ × ℕ × Desk). y.0) c.begin-b.ensures.does.answers ∙ e))).0))
-    c.put_one.ensures
+    c.begin-begun.ensures.does
+    c.code-code.ensures
+    (kept_words _ _ c.begin-begun.ensures.desks.0 c.begin-begun.ensures.desks.1 _ (λ ne. ap (λ (y : ℕ × ℕ × Desk). y.2) c.begin-begun.ensures.does.answers ∙ (begin_refused _ _ (λ e. ne (ap (λ (y : ℕ × ℕ × Desk). y.0) c.begin-begun.ensures.does.answers ∙ e))).0))
+    (ap (λ (n : ℕ). n ∷ []) c.unwrap_or.ensures)

@@ -20,7 +20,7 @@ returns c =
     (λ (y : ℕ × Desk). kept y.0 (words_of y.1) c.args.desk.now)
     (λ (y : ℕ × Desk). [])
     _
-    c.commit-a.ensures.does
+    c.commit.ensures.does
     c.code.ensures
-    (kept_words _ _ c.commit-a.ensures.desks.0 c.commit-a.ensures.desks.1 _ (λ ne. ap (λ (y : ℕ × Desk). y.1) c.commit-a.ensures.does.answers ∙ (commit_refused_leaves _ _ _ (λ e. ne (ap (λ (y : ℕ × Desk). y.0) c.commit-a.ensures.does.answers ∙ e))).0))
+    (kept_words _ _ c.commit.ensures.desks.0 c.commit.ensures.desks.1 _ (λ ne. ap (λ (y : ℕ × Desk). y.1) c.commit.ensures.does.answers ∙ (commit_refused_leaves _ _ _ (λ e. ne (ap (λ (y : ℕ × Desk). y.0) c.commit.ensures.does.answers ∙ e))).0))
     refl

@@ -16,7 +16,7 @@ use Rattle.station.proofs.chirimok_delete.Goals as goal
 pub returns : goal.returns
 unfolding delete_call
 returns c =
-    let done = c.delete-a.ensures.does in
+    let done = c.delete.ensures.does in
     calls
     (λ (y : ℕ × Desk). y.0)
     (λ (d : List ℕ). areas d c.args.undo.now c.args.status.now)
@@ -25,5 +25,5 @@ returns c =
     _
     done
     c.code.ensures
-    (marked_words _ _ c.delete-a.ensures.desks.0 c.delete-a.ensures.desks.1 c.args.session (ap (λ (y : ℕ × Desk). y.0) done.answers) (ap (λ (y : ℕ × Desk). y.1) done.answers ∙ delete_desk _ _ _ _))
+    (marked_words _ _ c.delete.ensures.desks.0 c.delete.ensures.desks.1 c.args.session (ap (λ (y : ℕ × Desk). y.0) done.answers) (ap (λ (y : ℕ × Desk). y.1) done.answers ∙ delete_desk _ _ _ _))
     refl

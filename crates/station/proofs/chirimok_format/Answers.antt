@@ -19,7 +19,7 @@ returns c =
     (λ (y : ℕ × Desk). kept y.0 (words_of (kept y.0 y.1 (desk_in c.args.desk.now))) c.args.desk.now)
     (λ (y : ℕ × Desk). [])
     _
-    c.format-o.ensures
-    c.code-code.ensures
-    (kept_by _ c.args.desk.now c.code-code.ensures c.put_kept.ensures)
+    c.format-formatted.ensures
+    c.code.ensures
+    (kept_by _ c.args.desk.now refl c.put_kept.ensures)
     refl

@@ -1,6 +1,6 @@
 -- `station::chirimok_insert` meets its contract: the call of the desk that the words say. Assumes nothing.
 use Prim.Native.Nat.{ℕ}
-use mathlib.Core.Path.{refl}
+use mathlib.Core.Path.{refl, ap}
 use mathlib.Core.List.{List, [], ◌∷◌}
 use Rattle.kind.specs.Areas.{areas}
 use Rattle.station.specs.Station.{insert_call}
@@ -16,7 +16,7 @@ returns c =
     (λ (y : ℕ × ℕ). c.args.desk.now)
     (λ (y : ℕ × ℕ). y.1 ∷ [])
     _
-    c.insert-i.ensures
-    c.code.ensures
+    c.insert-inserted.ensures
+    c.code-code.ensures
     refl
-    c.put_one.ensures
+    (ap (λ (n : ℕ). n ∷ []) c.unwrap_or.ensures)

@@ -20,7 +20,7 @@ returns c =
     (λ (y : ℕ × Desk). kept y.0 (words_of y.1) c.args.desk.now)
     (λ (y : ℕ × Desk). [])
     _
-    (reads _ (areas c.args.«data».now c.args.undo.now c.args.status.now) c.next-a.ensures.does)
+    (reads _ (areas c.args.«data».now c.args.undo.now c.args.status.now) c.next.ensures.does)
     c.code.ensures
-    (kept_words _ _ c.next-a.ensures.desks.0 c.next-a.ensures.desks.1 _ (λ ne. ap (λ (y : ℕ × Desk). y.1) c.next-a.ensures.does ∙ next_refused_leaves _ _ _ (λ e. ne (ap (λ (y : ℕ × Desk). y.0) c.next-a.ensures.does ∙ e))))
+    (kept_words _ _ c.next.ensures.desks.0 c.next.ensures.desks.1 _ (λ ne. ap (λ (y : ℕ × Desk). y.1) c.next.ensures.does ∙ next_refused_leaves _ _ _ (λ e. ne (ap (λ (y : ℕ × Desk). y.0) c.next.ensures.does ∙ e))))
     refl

@@ -16,7 +16,7 @@ returns c =
     (λ (y : ℕ). c.args.desk.now)
     (λ (y : ℕ). [])
     _
-    c.seal-a.ensures
+    c.seal.ensures
     c.code.ensures
     refl
     refl

@@ -16,7 +16,7 @@ use Rattle.station.proofs.chirimok_update.Goals as goal
 pub returns : goal.returns
 unfolding update_call
 returns c =
-    let done = c.update-a.ensures.does in
+    let done = c.update.ensures.does in
     calls
     (λ (y : ℕ × Desk). y.0)
     (λ (a : Areas). a)
@@ -25,5 +25,5 @@ returns c =
     _
     done
     c.code.ensures
-    (marked_words _ _ c.update-a.ensures.desks.0 c.update-a.ensures.desks.1 c.args.session (ap (λ (y : ℕ × Desk). y.0) done.answers) (ap (λ (y : ℕ × Desk). y.1) done.answers ∙ update_desk _ _ _ _ _))
+    (marked_words _ _ c.update.ensures.desks.0 c.update.ensures.desks.1 c.args.session (ap (λ (y : ℕ × Desk). y.0) done.answers) (ap (λ (y : ℕ × Desk). y.1) done.answers ∙ update_desk _ _ _ _ _))
     refl

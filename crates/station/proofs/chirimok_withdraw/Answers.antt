@@ -20,7 +20,7 @@ returns c =
     (λ (y : ℕ × Desk). kept y.0 (words_of y.1) c.args.desk.now)
     (λ (y : ℕ × Desk). [])
     _
-    c.withdraw-a.ensures.does
+    c.withdraw.ensures.does
     c.code.ensures
-    (kept_words _ _ c.withdraw-a.ensures.desks.0 c.withdraw-a.ensures.desks.1 _ (λ ne. ap (λ (y : ℕ × Desk). y.1) c.withdraw-a.ensures.does.answers ∙ (withdraw_refused_leaves _ _ _ (λ e. ne (ap (λ (y : ℕ × Desk). y.0) c.withdraw-a.ensures.does.answers ∙ e))).0))
+    (kept_words _ _ c.withdraw.ensures.desks.0 c.withdraw.ensures.desks.1 _ (λ ne. ap (λ (y : ℕ × Desk). y.1) c.withdraw.ensures.does.answers ∙ (withdraw_refused_leaves _ _ _ (λ e. ne (ap (λ (y : ℕ × Desk). y.0) c.withdraw.ensures.does.answers ∙ e))).0))
     refl

@@ -1,22 +1,19 @@
--- `sweeping::are_whole` meets its contract. The loop's invariant: the first i rows have no break. Assumes nothing.
-use mathlib.Core.Path.{refl}
+-- `sweeping::are_whole` meets its contract: each row of the range is asked. Assumes nothing.
+use mathlib.Core.Path.{refl, ◌∙◌}
+use mathlib.Core.Bool.{Bool}
+use Prim.Native.Nat.{ℕ}
 use native.Mathlib.Omega.{arith}
-use Rattle.ground.specs.Range.{all_below}
+use Rattle.std.proofs.Common.{rules, tests}
+use Rattle.std.proofs.lemmas.Iterator.{YieldsList-from_range}
+use Rattle.std.proofs.lemmas.Iterator.Search.{all_from_yields_List}
+use Rattle.ground.proofs.Runs.{list_all_below}
+use Rattle.chain.specs.Chain.{chain_of}
 use Rattle.sweeping.specs.Sweeping.{all_whole}
-use Rattle.sweeping.proofs.Treats.{whole_more, whole_fails, whole_all}
 use Rattle.sweeping.proofs.are_whole.Goals as goal
 
-pub loop-i-init : goal.loop-i-init
-unfolding all_whole all_below
-loop-i-init c = (omega arith, refl)
-
-pub returns-then-not-is_whole : goal.returns-then-not-is_whole
-returns-then-not-is_whole c =
-    whole_fails _ _ _ _ _ c.is_whole.ensures (omega arith) (c.if-not-is_whole.true)
-
-pub loop-i-preserved : goal.loop-i-preserved
-loop-i-preserved c =
-    (omega arith, whole_more _ _ _ 0 _ c.is_whole.ensures c.loop-i.invariant.1 (c.if-not-is_whole.false))
-
 pub returns : goal.returns
-returns c = whole_all _ _ _ _ c.loop-i.i (omega arith) (omega arith) c.loop-i.invariant.1
+unfolding all_whole
+returns c =
+    let whole : ℕ → Bool = λ r. (chain_of c.args.«data».now c.args.undo.now r).whole in
+    all_from_yields_List whole _ _ _ c.all.ensures.ran (YieldsList-from_range _ _ _ refl (omega arith)) (λ x b q k. search (rules, tests))
+    ∙ list_all_below whole c.args.first c.args.n

@@ -12,10 +12,10 @@ use Rattle.sweeping.proofs.sweep_rows.Goals.{Start}
 -- how many pages the areas have
 module _ (c : goal.Start) where
   data_few : length c.args.«data».now / 8192 ≤ 64
-  data_few = (all_lent (length c.args.«data».now) (length c.args.undo.now) (length c.args.status.now) c.requires.1).in_data.few
+  data_few = (all_lent (length c.args.«data».now) (length c.args.undo.now) (length c.args.sweep.status.bytes.now) c.requires.1).in_data.few
 
   undo_few : length c.args.undo.now / 8192 ≤ 64
-  undo_few = (all_lent (length c.args.«data».now) (length c.args.undo.now) (length c.args.status.now) c.requires.1).in_undo.few
+  undo_few = (all_lent (length c.args.«data».now) (length c.args.undo.now) (length c.args.sweep.status.bytes.now) c.requires.1).in_undo.few
 
 pub sweep_uncounted-removed-requires : goal.sweep_uncounted-removed-requires
 sweep_uncounted-removed-requires c =

@@ -1,8 +1,5 @@
 -- `trimming::free_rest` meets its contract. The loop's invariant: freeing the rest of the chain from here on leaves what freeing it from
 -- the first pointer on does, of the area tallied. Assumes nothing.
-use mathlib.Core.Path.{◌≡◌}
-use Prim.Native.Nat.{◌≤◌, ◌-◌}
-use lib.ListN.{length}
 use Rattle.kind.specs.Kind.{undo_kind, entries}
 use Rattle.freeing.specs.Tally.{tallied}
 use Rattle.trimming.proofs.Rests.{Freed}
@@ -10,10 +7,4 @@ use Rattle.trimming.proofs.free_rest.Given as goal
 
 abbrev pub invariant-loop-n : goal.invariant-loop-n
 invariant-loop-n l =
-    (l.n ≤ l.most)
-    × (length l.undo ≡ length l.initial.undo)
-    × (length l.due ≡ length l.initial.due)
-    × Freed (tallied undo_kind l.initial.due l.initial.undo) l.r l.first (entries (tallied undo_kind l.initial.due l.initial.undo)) (tallied undo_kind l.due l.undo) l.ptr l.n
-
-abbrev pub decreases-loop-n : goal.decreases-loop-n
-decreases-loop-n l = l.most - l.n
+    Freed (tallied undo_kind l.initial.due l.initial.undo) l.r l.first (entries (tallied undo_kind l.initial.due l.initial.undo)) (tallied undo_kind l.due l.undo) l.ptr l.n

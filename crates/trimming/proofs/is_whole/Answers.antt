@@ -12,28 +12,28 @@ use Rattle.trimming.proofs.is_whole.Goals.{In-To}
 -- where the link leads to an entry
 led : (c : goal.In-To)
     →
-    link_of c.args.undo.now c.args.r c.loop-n.ptr
+    link_of c.args.undo.now c.args.r c.loop.ptr
     ≡ To c.in-To.field-0 c.in-To.n
-led c = sym c.follow-l.ensures ∙ c.in-To.is
+led c = sym c.follow.ensures ∙ c.in-To.is
 
 pub returns-then-m-eq0 : goal.returns-then-m-eq0
 returns-then-m-eq0 c = whole_empty _ _ _ c.read_slot-m.ensures c.if-m-eq0.true
 
-pub loop-n-init : goal.loop-n-init
-loop-n-init c = (omega arith, omega arith, run_start _ _ _ _ _ _)
+pub loop-init : goal.loop-init
+loop-init c = run_start _ _ _ _ _ _
 
-pub loop-n-preserved : goal.loop-n-preserved
-loop-n-preserved c =
-    (omega arith, omega arith, sym (run_on _ _ never _ _ _ _ _ (led (goal.at.loop-n-preserved c).In-To) (omega arith) refl) ∙ c.loop-n.invariant.2)
+pub loop-preserved : goal.loop-preserved
+loop-preserved c =
+    sym (run_on _ _ never _ _ _ _ _ (led (goal.at.loop-preserved c).In-To) (omega arith) refl) ∙ c.loop.invariant
 
 pub returns-in-End : goal.returns-in-End
 returns-in-End c =
-    whole_end _ _ _ c.read_slot-m.ensures c.if-m-eq0.false _ _ c.loop-n.invariant.2 (sym c.follow-l.ensures ∙ c.in-End.is)
+    whole_end _ _ _ c.read_slot-m.ensures c.if-m-eq0.false _ _ c.loop.invariant (sym c.follow.ensures ∙ c.in-End.is)
 
 pub returns-in-Break : goal.returns-in-Break
 returns-in-Break c =
-    whole_break _ _ _ c.read_slot-m.ensures c.if-m-eq0.false _ _ c.loop-n.invariant.2 (sym c.follow-l.ensures ∙ c.in-Break.is)
+    whole_break _ _ _ c.read_slot-m.ensures c.if-m-eq0.false _ _ c.loop.invariant (sym c.follow.ensures ∙ c.in-Break.is)
 
-pub returns-then-looked-most : goal.returns-then-looked-most
-returns-then-looked-most c =
-    whole_out _ _ _ c.read_slot-m.ensures c.if-m-eq0.false _ _ (omega arith) (led (goal.at.returns-then-looked-most c).In-To) c.loop-n.invariant.2
+pub returns-in-To : goal.returns-in-To
+returns-in-To c =
+    whole_out _ _ _ c.read_slot-m.ensures c.if-m-eq0.false _ _ (omega arith) (led (goal.at.returns-in-To c).In-To) c.loop.invariant

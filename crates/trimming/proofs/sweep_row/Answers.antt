@@ -41,8 +41,7 @@ sweep_behind-requires c = (
   c.requires.0,
   c.requires.1,
   c.requires.2,
-  c.requires.3,
-  row_whole _ _ _ (slot (goal.at.sweep_behind-requires c).After-read_slot-m) c.if-m-eq0.false c.requires.4,
+  row_whole _ _ _ (slot (goal.at.sweep_behind-requires c).After-read_slot-m) c.if-m-eq0.false c.requires.3,
 )
 
 pub returns : goal.returns

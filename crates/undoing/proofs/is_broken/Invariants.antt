@@ -15,13 +15,13 @@ abbrev pub invariant-loop-n : goal.invariant-loop-n
 invariant-loop-n l =
     (1 ≤ l.looked)
     × (l.looked ≤ suc l.most)
-    × (is_broken (walked l.number l.k l.undo l.r (entries l.undo) l.looked (link_of l.undo l.r l.ptr)) ≡ broken_row l.number l.k l.data l.undo l.r)
+    × (is_broken (walked l.since.number l.since.statement l.undo l.r (entries l.undo) l.looked (link_of l.undo l.r l.ptr)) ≡ broken_row l.since.number l.since.statement l.data l.undo l.r)
 
 abbrev pub decreases-loop-n : goal.decreases-loop-n
 decreases-loop-n l = suc l.most - l.looked
 
 abbrev pub invariant-rows : goal.invariant-rows
-invariant-rows l = (l.r ≤ l.rows) × (all_below (fine l.number l.k l.data l.undo) l.r ≡ true)
+invariant-rows l = (l.r ≤ l.rows) × (all_below (fine l.since.number l.since.statement l.data l.undo) l.r ≡ true)
 
 abbrev pub decreases-rows : goal.decreases-rows
 decreases-rows l = l.rows - l.r

@@ -4,4 +4,4 @@ use Rattle.whole.proofs.put_checksum.Goals as goal
 
 pub returns : goal.returns
 unfolding put_field
-returns c = c.put4.ensures
+returns c = c.put.ensures

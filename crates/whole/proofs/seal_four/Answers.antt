@@ -1,7 +1,7 @@
--- `whole::seal_four` meets its contract: each of the four as one is. Assumes nothing.
-use Rattle.whole.proofs.Abreast.{sealed_four_puts}
+-- `whole::seal_four` meets its contract. The loop's invariant: so many pages from p on are sealed. Assumes nothing.
+use Rattle.whole.proofs.Abreast.{checksum_at, sealed_on_more}
 use Rattle.whole.proofs.seal_four.Goals as goal
 
-pub returns : goal.returns
-returns c =
-    sealed_four_puts _ _ c.checksums-sums.ensures c.put_checksum.ensures c.put_checksum-2.ensures c.put_checksum-3.ensures c.put_checksum-4.ensures
+pub loop-i-preserved : goal.loop-i-preserved
+loop-i-preserved c =
+    sealed_on_more _ _ _ _ _ c.loop-i.invariant (checksum_at _ _ _ c.checksums.ensures c.loop-i-test.true) c.put_checksum.ensures

@@ -1,8 +1,8 @@
--- `words::is_sound` meets its contract: the columns are parts of the words. Assumes nothing.
+-- `words::is_sound` meets its contract: what is lent is the desk. Assumes nothing.
+use mathlib.Core.Path.{ap, ◌∙◌}
 use Rattle.desk.specs.Sound.{sound}
-use Rattle.words.specs.Words.{desk_in}
 use Rattle.words.proofs.is_sound.Goals as goal
 
 pub returns : goal.returns
-unfolding sound desk_in
-returns c = c.columns_sound.ensures
+unfolding sound
+returns c = c.columns_sound.ensures ∙ ap sound c.lent.ensures

@@ -3,4 +3,4 @@ use Rattle.words.proofs.Laws.{spoiled_at_lem}
 use Rattle.words.proofs.is_spoiled.Goals as goal
 
 pub returns : goal.returns
-returns c = spoiled_at_lem _ _ c.requires.1
+returns c = spoiled_at_lem _ _ c.requires

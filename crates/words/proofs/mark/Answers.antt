@@ -1,8 +1,8 @@
--- `words::mark` meets its contract: the columns are parts of the words. Assumes nothing.
+-- `words::mark` meets its contract: what is lent is the desk. Assumes nothing.
+use mathlib.Core.Path.{ap, ◌∙◌}
 use Rattle.desk.specs.Turns.{mark}
-use Rattle.words.specs.Words.{desk_in}
 use Rattle.words.proofs.mark.Goals as goal
 
 pub returns : goal.returns
-unfolding mark desk_in
-returns c = c.mark.ensures
+unfolding mark
+returns c = c.mark.ensures ∙ ap mark c.lent-next.ensures

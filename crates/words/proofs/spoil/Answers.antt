@@ -1,7 +1,6 @@
 -- `words::spoil` meets its contract: one word is set. Assumes nothing.
 use Rattle.words.proofs.Laws.{spoil_said}
-use borrow.Author.Rules.{rules}
 use Rattle.words.proofs.spoil.Goals as goal
 
 pub returns : goal.returns
-returns c = (spoil_said _ _ c.requires.1, search rules)
+returns c = spoil_said _ _ c.requires

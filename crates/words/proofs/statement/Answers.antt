@@ -3,4 +3,4 @@ use Rattle.words.proofs.Laws.{statement_at}
 use Rattle.words.proofs.statement.Goals as goal
 
 pub returns : goal.returns
-returns c = statement_at _ _ c.requires.1
+returns c = statement_at _ _ c.requires

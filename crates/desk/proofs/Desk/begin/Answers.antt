@@ -18,5 +18,5 @@ returns c =
       numbers = set desk.numbers (k i) desk.next;
       statements = set desk.statements (k i) first_statement;
       marks = set desk.marks (k i) 0;
-      lists = (c.with_list.ensures ∙ ap (λ (n : ℕ). sets desk.lists (n * members) (take members desk.numbers)) k) i;
+      lists = (c.put_list.ensures ∙ ap (λ (n : ℕ). sets desk.lists (n * members) (take members desk.numbers)) k) i;
     }

@@ -7,8 +7,8 @@ unfolding closed
 returns c =
     λ i. record {
       next = c.args.self.next;
-      numbers = c.without_place.ensures i;
-      statements = c.without_place-2.ensures i;
-      marks = c.without_place-3.ensures i;
-      lists = c.without_list.ensures i;
+      numbers = c.pull_up.ensures i;
+      statements = c.pull_up-2.ensures i;
+      marks = c.pull_up-3.ensures i;
+      lists = c.pull_up-4.ensures i;
     }

@@ -6,4 +6,4 @@ use Rattle.page.proofs.Headers.{field_in_page_at}
 use Rattle.page.proofs.header.txn_id.Goals as goal
 
 pub returns : goal.returns
-returns c = c.get8.ensures ∙ sym (field_in_page_at txn_id _ _ (omega arith))
+returns c = c.get.ensures ∙ sym (field_in_page_at txn_id _ _ (omega arith))

@@ -1,7 +1,0 @@
-use native.Mathlib.Omega.{arith}
-use Rattle.little.proofs.Parts.{little_part_add}
-use Rattle.little.proofs.get8.Goals as goal
-
-pub returns : goal.returns
-returns c =
-    omega (arith, little_part_add c.args.at 4 4 c.args.s.now (omega arith))

@@ -1,6 +1,0 @@
--- `station::put_two` meets its contract. Assumes nothing.
-use Rattle.station.proofs.Calls.{two_put}
-use Rattle.station.proofs.put_two.Goals as goal
-
-pub returns : goal.returns
-returns c = two_put c.args.out.now c.args.a c.args.b c.requires
