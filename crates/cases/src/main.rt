@@ -21,18 +21,21 @@ struct Store {
 }
 
 impl Store {
-    // A freshly formatted store.
-    fn fresh() -> Store {
-        let mut store = Store {
+    // A store of zeros, not formatted yet.
+    fn blank() -> Store {
+        Store {
             data: [0; 8192],
             undo: [0; 8192],
             status: [0; 8192],
             desk: [0; Layout::WORDS],
-        };
-        if let Ok(desk) = keep::format(&mut store.data, &mut store.undo, &mut store.status) {
-            words::put_desk(&mut store.desk, &desk);
         }
-        store
+    }
+
+    // Formats it, whatever the case before has left in it.
+    fn format(&mut self) {
+        if let Ok(desk) = keep::format(&mut self.data, &mut self.undo, &mut self.status) {
+            words::put_desk(&mut self.desk, &desk);
+        }
     }
 
     // Row 0, read by session s: the number, the versions looked at, and the body, which a refusal leaves out.
@@ -110,10 +113,10 @@ fn said(
     println!(rt; "{call} {s}{row}\t{}", answer::code(answered))
 }
 
-// A case on a freshly formatted store: its title, and its calls, each a letter and the session's digit.
-fn case(rt: &impl Print, name: &str, calls: &[u8]) -> io::Result<()> {
+// A case on a store that is formatted for it: its title, and its calls, each a letter and the session's digit.
+fn case(rt: &impl Print, store: &mut Store, name: &str, calls: &[u8]) -> io::Result<()> {
     println!(rt; "# {name}")?;
-    let mut store = Store::fresh();
+    store.format();
     for call in calls.chunks_exact(2) {
         store.play(rt, call[0], (call[1] % 16) as u64)?;
     }
@@ -123,23 +126,32 @@ fn case(rt: &impl Print, name: &str, calls: &[u8]) -> io::Result<()> {
 // A session's own writes. P5: "own insert isn't there in its own statement", so its update answers 7. P6: "it is there in the next".
 // P7: "own delete still shows in its statement"; a second one is 8. P8: "a second update in one statement: 8"; in the next it goes on.
 fn own_writes(rt: &impl Print) -> io::Result<()> {
-    case(rt, "P5, P6: an own insert", b"b1i1r1u1n1r1u1")?;
-    case(rt, "P7: an own delete", b"b1i1c1b2d2r2d2n2r2d2")?;
-    case(rt, "P8: an own update", b"b1i1c1b2u2u2r2n2u2r2")
+    let mut store = Store::blank();
+    case(rt, &mut store, "P5, P6: an own insert", b"b1i1r1u1n1r1u1")?;
+    case(rt, &mut store, "P7: an own delete", b"b1i1c1b2d2r2d2n2r2d2")?;
+    case(rt, &mut store, "P8: an own update", b"b1i1c1b2u2u2r2n2u2r2")
 }
 
 // Another session's. "Another expirer: 10 if committed, else 9"; "creator .. seen: go on; otherwise 10 if committed, else 9". The expirer is
 // looked at first: the creator committed after session 3 began, the expirer is in work, so 9. After its 10 session 3 may only read and
 // withdraw: "insert, update, delete, next and commit answer 18" ("02, T-07").
 fn other_writes(rt: &impl Print) -> io::Result<()> {
-    case(rt, "9, 10: another's delete", b"b1i1c1b2b3d2d3c2u3r3")?;
+    let mut store = Store::blank();
     case(
         rt,
+        &mut store,
+        "9, 10: another's delete",
+        b"b1i1c1b2b3d2d3c2u3r3",
+    )?;
+    case(
+        rt,
+        &mut store,
         "9, 10, 18: another's update",
         b"b1i1c1b2b3u2u3c2d3n3i3u3d3c3r3b4u4",
     )?;
     case(
         rt,
+        &mut store,
         "9: the expirer before the creator",
         b"b1i1c1b2b3u2c2b4d4d3",
     )

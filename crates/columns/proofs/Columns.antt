@@ -10,7 +10,7 @@ use native.Mathlib.Numerals.{add-one}
 use native.Mathlib.Omega.{arith}
 use lib.ListN.{length, get_or, set, take, drop, replicate, length-append, length-drop, length-replicate}
 use lib.ListN.{get_or-append, drop_of_length-le}
-use lib.Seq.{sets, sets-eq, length-take-le, get_or-take, get_or-drop, get_or-append-add, get_or-set_other}
+use lib.Seq.{sets, paste, sets-eq, length-take-le, get_or-take, get_or-drop, get_or-append-add, get_or-set_other}
 use lib.Seq.{paste-suc, drop-append-le, drop_at, take_at, take_all, take-paste, length-paste}
 use lib.Dec.{eqb, ltb}
 use borrow.Author.Tests.{ltb-true, ltb-false}
@@ -93,6 +93,22 @@ put_mid_sets d at k vs ys same long fits =
     put_mid-paste at k d ys vs k same refl long
     ∙ ap₂ (λ (s : List ℕ) (n : ℕ). take at d ++ s ++ drop (at + n) d) (take_all k vs (omega arith)) long
     ∙ sym (sets-eq vs d at fits)
+
+-- place by place: a turn, after i of them, and all of them
+pub paste_next : (d : List ℕ) (at : ℕ) (s : List ℕ) (i : ℕ) (l : List ℕ)
+    → l ≡ paste d at s i
+    → at + i < length d
+    → i < length s
+    → set l (at + i) (get_or s i 0) ≡ paste d at s (i + 1)
+paste_next d at s i l e fd fs = rw (e, add-one) (paste-suc d at s i 0 fd fs)
+
+pub paste_sets : (d : List ℕ) (at : ℕ) (s : List ℕ) (n : ℕ)
+    → at + n ≤ length d
+    → n ≤ length s
+    → paste d at s n ≡ sets d at (take n s)
+paste_sets d at s n fd fs =
+    let long : length (take n s) ≡ n = length-take-le n s fs in
+    sym (sets-eq (take n s) d at (omega arith) ∙ ap (λ (k : ℕ). take at d ++ take n s ++ drop (at + k) d) long)
 
 -- the first i places of s from `at` on, before what d has behind them: a turn
 pub part_next : (d s : List ℕ) (at i : ℕ) (l : List ℕ)

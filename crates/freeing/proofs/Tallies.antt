@@ -10,6 +10,8 @@ use native.Mathlib.Numerals.{add-one}
 use native.Mathlib.Omega.{arith}
 use lib.ListN.{length, get_or, set}
 use lib.Seq.{get_or-set_same, get_or-set_other}
+use lib.Dec.{eqb}
+use borrow.Author.Tests.{eq-eqb, ne_eqb}
 use Rattle.little.specs.Little.{Bytes}
 use Rattle.kind.specs.declared.Kind.{Kind}
 use Rattle.kind.specs.Kind.{data_kind, undo_kind, pages, rows, entries}
@@ -28,32 +30,32 @@ use Rattle.freeing.specs.Tally.{tallied_to, tallied}
 
 -- ---- page after page
 
-module _ {x y : List ℕ} (k : Kind) (due : List Bool) (s : List ℕ) (n : ℕ) (front : x ≡ tallied_to k due n s) where
+module _ {x y : List ℕ} (k : Kind) (due s : List ℕ) (n : ℕ) (front : x ≡ tallied_to k due n s) where
   -- a page whose count is due, and one whose count is not
-  pub tally_counts : get_or due n false ≡ true → y ≡ counted k n x → y ≡ tallied_to k due (n + 1) s
+  pub tally_counts : (get_or due n 0 ≡ 0 → ⊥) → y ≡ counted k n x → y ≡ tallied_to k due (n + 1) s
   unfolding tallied_to
-  tally_counts h is = rw (add-one, h) (is ∙ ap (counted k n) front)
+  tally_counts h is = rw (add-one, ne_eqb (get_or due n 0) 0 h) (is ∙ ap (counted k n) front)
 
-  pub tally_passes : get_or due n false ≡ false → y ≡ x → y ≡ tallied_to k due (n + 1) s
+  pub tally_passes : get_or due n 0 ≡ 0 → y ≡ x → y ≡ tallied_to k due (n + 1) s
   unfolding tallied_to
-  tally_passes h is = rw (add-one, h) (is ∙ front)
+  tally_passes h is = rw (add-one, eq-eqb (get_or due n 0) 0 h) (is ∙ front)
 
-pub tally_ends : {x : List ℕ} (k : Kind) (due : List Bool) (s : List ℕ) (n : ℕ) → x ≡ tallied_to k due n s → n ≡ pages s → x ≡ tallied k due s
+pub tally_ends : {x : List ℕ} (k : Kind) (due s : List ℕ) (n : ℕ) → x ≡ tallied_to k due n s → n ≡ pages s → x ≡ tallied k due s
 unfolding tallied
 tally_ends k due s n is all = is ∙ ap (λ (m : ℕ). tallied_to k due m s) all
 
 -- ---- what stays
 
-module _ (k : Kind) (due : List Bool) where
+module _ (k : Kind) (due : List ℕ) where
   -- whatever a count leaves
   tallied_to_keeps : (P : List ℕ → Type 0) → ((p : ℕ) (x : List ℕ) → P x → P (counted k p x)) → (n : ℕ) (s : List ℕ) → P s → P (tallied_to k due n s)
   unfolding tallied_to
   tallied_to_keeps P step zero s h = h
-  tallied_to_keeps P step (suc n) s h = by (get_or due n false) (tallied_to_keeps P step n s h)
+  tallied_to_keeps P step (suc n) s h = by (eqb (get_or due n 0) 0) (tallied_to_keeps P step n s h)
     where
-      by : (b : Bool) → P (tallied_to k due n s) → P (cond b (counted k n (tallied_to k due n s)) (tallied_to k due n s))
-      by true q = step n (tallied_to k due n s) q
-      by false q = q
+      by : (b : Bool) → P (tallied_to k due n s) → P (cond b (tallied_to k due n s) (counted k n (tallied_to k due n s)))
+      by true q = q
+      by false q = step n (tallied_to k due n s) q
 
   pub length_tallied_to : (n : ℕ) (s : List ℕ) → length (tallied_to k due n s) ≡ length s
   length_tallied_to n s = tallied_to_keeps (λ (x : List ℕ). length x ≡ length s) (λ p x h. length_counted k p x ∙ h) n s refl
@@ -81,56 +83,56 @@ module _ (k : Kind) (due : List Bool) where
     bytes_tallied h = tallied_keeps Bytes (λ p x b. bytes_counted k p x b) h
 
     -- where no count is due, all
-    pub tallied_none : ((p : ℕ) → get_or due p false ≡ false) → tallied k due s ≡ s
+    pub tallied_none : ((p : ℕ) → get_or due p 0 ≡ 0) → tallied k due s ≡ s
     unfolding tallied tallied_to
     tallied_none none = upto (pages s)
       where
         upto : (n : ℕ) → tallied_to k due n s ≡ s
         upto zero = refl
-        upto (suc n) = ap (λ (b : Bool). cond b (counted k n (tallied_to k due n s)) (tallied_to k due n s)) (none n) ∙ upto n
+        upto (suc n) = ap (λ (x : ℕ). cond (eqb x 0) (tallied_to k due n s) (counted k n (tallied_to k due n s))) (none n) ∙ upto n
 
 -- ---- a store into record r, with the flag of its page set
 
-module _ {size count r : ℕ} {f : List ℕ → List ℕ} (lie : Lie 8192 size count) (w : Writes size count r f) (k : Kind) (due : List Bool) (s : List ℕ) where
+module _ {size count r : ℕ} {f : List ℕ → List ℕ} (lie : Lie 8192 size count) (w : Writes size count r f) (k : Kind) (due s : List ℕ) where
   abbrev page : ℕ
   page = r / count
 
-  abbrev more : List Bool
-  more = set due page true
+  abbrev more : List ℕ
+  more = set due page 1
 
-  flag_other : (n : ℕ) → (n ≡ page → ⊥) → get_or more n false ≡ get_or due n false
-  flag_other n ne = get_or-set_other due page n true false ne
+  flag_other : (n : ℕ) → (n ≡ page → ⊥) → get_or more n 0 ≡ get_or due n 0
+  flag_other n ne = get_or-set_other due page n 1 0 ne
 
   -- the pages in front of it
   tally_front : (n : ℕ) → n ≤ page → tallied_to k more n (f s) ≡ f (tallied_to k due n s)
   unfolding tallied_to
   tally_front zero h = refl
   tally_front (suc n) h =
-      ap (λ (b : Bool). cond b (counted k n (tallied_to k more n (f s))) (tallied_to k more n (f s))) (flag_other n ne)
-      ∙ by (get_or due n false) (tally_front n (omega arith))
+      ap (λ (x : ℕ). cond (eqb x 0) (tallied_to k more n (f s)) (counted k n (tallied_to k more n (f s)))) (flag_other n ne)
+      ∙ by (eqb (get_or due n 0) 0) (tally_front n (omega arith))
     where
       ne : n ≡ page → ⊥
       ne e = omega arith
 
       by : (b : Bool) → tallied_to k more n (f s) ≡ f (tallied_to k due n s)
-          → cond b (counted k n (tallied_to k more n (f s))) (tallied_to k more n (f s)) ≡ f (cond b (counted k n (tallied_to k due n s)) (tallied_to k due n s))
-      by true e = ap (counted k n) e ∙ counted_writes_other lie w k n (tallied_to k due n s) ne
-      by false e = e
+          → cond b (tallied_to k more n (f s)) (counted k n (tallied_to k more n (f s))) ≡ f (cond b (tallied_to k due n s) (counted k n (tallied_to k due n s)))
+      by true e = e
+      by false e = ap (counted k n) e ∙ counted_writes_other lie w k n (tallied_to k due n s) ne
 
   module _ (has : page < length due) where
     -- with itself
     tally_here : tallied_to k more (suc page) (f s) ≡ counted k page (f (tallied_to k due (suc page) s))
     unfolding tallied_to
     tally_here =
-        ap (λ (b : Bool). cond b (counted k page (tallied_to k more page (f s))) (tallied_to k more page (f s))) (get_or-set_same due page true false has)
+        ap (λ (x : ℕ). cond (eqb x 0) (tallied_to k more page (f s)) (counted k page (tallied_to k more page (f s)))) (get_or-set_same due page 1 0 has)
         ∙ ap (counted k page) (tally_front page (omega arith))
-        ∙ by (get_or due page false)
+        ∙ by (eqb (get_or due page 0) 0)
       where
         by : (b : Bool)
             → counted k page (f (tallied_to k due page s))
-            ≡ counted k page (f (cond b (counted k page (tallied_to k due page s)) (tallied_to k due page s)))
-        by true = sym (counted_writes_same lie w k page (tallied_to k due page s))
-        by false = refl
+            ≡ counted k page (f (cond b (tallied_to k due page s) (counted k page (tallied_to k due page s))))
+        by true = refl
+        by false = sym (counted_writes_same lie w k page (tallied_to k due page s))
 
     -- and with those behind it
     tally_through : (n : ℕ) → page < n → tallied_to k more n (f s) ≡ counted k page (f (tallied_to k due n s))
@@ -146,23 +148,23 @@ module _ {size count r : ℕ} {f : List ℕ → List ℕ} (lie : Lie 8192 size c
 
         behind : page < n → Same n → Same (suc n)
         behind l ih =
-            ap (λ (b : Bool). cond b (counted k n (tallied_to k more n (f s))) (tallied_to k more n (f s))) (flag_other n ne)
-            ∙ by (get_or due n false)
+            ap (λ (x : ℕ). cond (eqb x 0) (tallied_to k more n (f s)) (counted k n (tallied_to k more n (f s)))) (flag_other n ne)
+            ∙ by (eqb (get_or due n 0) 0)
           where
             ne : n ≡ page → ⊥
             ne e = omega arith
 
             by : (b : Bool)
-                → cond b (counted k n (tallied_to k more n (f s))) (tallied_to k more n (f s))
-                ≡ counted k page (f (cond b (counted k n (tallied_to k due n s)) (tallied_to k due n s)))
-            by true =
+                → cond b (tallied_to k more n (f s)) (counted k n (tallied_to k more n (f s)))
+                ≡ counted k page (f (cond b (tallied_to k due n s) (counted k n (tallied_to k due n s))))
+            by true = ih
+            by false =
                 ap (counted k n) ih
                 ∙ counted_comm k page n (f (tallied_to k due n s)) ne
                 ∙ ap (counted k page) (counted_writes_other lie w k n (tallied_to k due n s) ne)
-            by false = ih
 
     -- y is the area written, and `flags` are those set
-    tallied_writes : {y : List ℕ} {flags : List Bool} → flags ≡ more → y ≡ f s → page < pages s → tallied k flags y ≡ counted k page (f (tallied k due s))
+    tallied_writes : {y flags : List ℕ} → flags ≡ more → y ≡ f s → page < pages s → tallied k flags y ≡ counted k page (f (tallied k due s))
     unfolding tallied
     tallied_writes {y} {flags} set is inside =
         ap₂ (tallied k) set is
@@ -171,7 +173,7 @@ module _ {size count r : ℕ} {f : List ℕ → List ℕ} (lie : Lie 8192 size c
 
 -- ---- the sweep's four writers
 
-module _ {y : List ℕ} {flags : List Bool} (r : ℕ) (d : List ℕ) (due : List Bool) (flag : flags ≡ set due (r / 127) true) (row : r < rows d) (few : pages d ≤ length due) where
+module _ {y flags : List ℕ} (r : ℕ) (d due : List ℕ) (flag : flags ≡ set due (r / 127) 1) (row : r < rows d) (few : pages d ≤ length due) where
   pub swept_slot_tallied : y ≡ clear_slot r d → tallied data_kind flags y ≡ swept_slot r (tallied data_kind due d)
   unfolding swept_slot
   swept_slot_tallied is = tallied_writes slots_lie (clear_slot_writes r) data_kind due d (omega arith) flag is (omega arith)
@@ -180,7 +182,7 @@ module _ {y : List ℕ} {flags : List Bool} (r : ℕ) (d : List ℕ) (due : List
   unfolding cut_slot
   cut_slot_tallied m is = tallied_writes slots_lie (put_meta_writes r m) data_kind due d (omega arith) flag is (omega arith)
 
-module _ {y : List ℕ} {flags : List Bool} (e : ℕ) (u : List ℕ) (due : List Bool) (flag : flags ≡ set due (e / 101) true) (here : e < entries u) (few : pages u ≤ length due) where
+module _ {y flags : List ℕ} (e : ℕ) (u due : List ℕ) (flag : flags ≡ set due (e / 101) 1) (here : e < entries u) (few : pages u ≤ length due) where
   pub swept_entry_tallied : y ≡ clear_entry e u → tallied undo_kind flags y ≡ swept_entry e (tallied undo_kind due u)
   unfolding swept_entry
   swept_entry_tallied is = tallied_writes entries_lie (clear_entry_writes e) undo_kind due u (omega arith) flag is (omega arith)

@@ -1,6 +1,6 @@
 -- Records do not overlap and lie behind the header of their page: once, over page size, record size and records to a page.
 -- Assumes nothing.
-use mathlib.Core.Path.{◌≡◌, sym, ap, ◌∙◌}
+use mathlib.Core.Path.{◌≡◌, sym, ap, subst, ◌∙◌}
 use mathlib.Core.Logic.{⊎_elim}
 use mathlib.Core.List.{List}
 use Prim.Native.Nat.{ℕ, suc, ◌+◌, ◌*◌, ◌/◌, ◌%◌, ◌≤◌, ◌<◌}
@@ -9,8 +9,9 @@ use native.Mathlib.Omega.{arith}
 use lib.ListN.{length}
 use lib.Seq.{sets, length-sets}
 use Rattle.ground.proofs.Ranges.{lt_or_le}
-use Rattle.little.specs.Little.{part}
+use Rattle.little.specs.Little.{part, Bytes}
 use Rattle.little.proofs.Parts.{length_part, part_sets, part_sets_inside, part_sets_inside_front, part_sets_below, part_sets_above}
+use Rattle.little.proofs.AllBytes.{bytes_sets}
 use Rattle.kind.specs.Place.{number_of, place_of, record_at}
 
 -- a whole multiple more
@@ -123,6 +124,9 @@ module _ {page size count : ℕ} (lie : Lie page size count) where
 
     pub length_within : length y ≡ length s
     length_within = ap length w.is ∙ length-sets s (place_of page size count r + w.from) w.bytes
+
+    pub bytes_within : Bytes w.bytes → Bytes s → Bytes y
+    bytes_within b h = subst Bytes (sym w.is) (bytes_sets w.bytes s (place_of page size count r + w.from) b h)
 
   -- from the record's first byte on
   pub within_front : (r : ℕ) (s vs : List ℕ) → length vs ≤ size → Within page size count r s (sets s (place_of page size count r) vs)

@@ -2,7 +2,7 @@
 use mathlib.Core.Path.{◌≡◌, refl, sym, ap, ap₂, ◌∙◌, subst}
 use mathlib.Core.List.{List, [], ◌∷◌, ◌++◌}
 use Prim.Native.Nat.{ℕ, zero, suc, ◌+◌, ◌-◌, ◌*◌, ◌/◌, ◌%◌, ◌^◌, ◌<◌}
-use native.Mathlib.Nat.{pow-suc, pow-succ', mul_assoc, mul_comm, div-lt_iff_lt-mul, div-div-eq-div-mul, pow-zero, one-le-pow}
+use native.Mathlib.Nat.{zero-add, suc-add, pow-suc, pow-succ', mul_assoc, mul_comm, div-lt_iff_lt-mul, div-div-eq-div-mul, pow-zero, one-le-pow}
 use native.Mathlib.Omega.{arith}
 use lib.Arith.{mod-mul}
 use lib.ListN.{length, take}
@@ -32,6 +32,16 @@ little_append (b ∷ x) y =
     ap (λ (n : ℕ). n * little y) (pow-succ' 256 (length x)) ∙ mul_assoc 256 (256 ^ length x) (little y)
     in
     omega (arith, little_append x y)
+
+-- a number's low bytes and its high ones
+pub digits_add : (a b v : ℕ) → digits (a + b) v ≡ digits a v ++ digits b (v / 256 ^ a)
+unfolding digits
+digits_add zero b v = ap (λ (n : ℕ). digits n v) (zero-add b) ∙ ap (digits b) (omega arith)
+digits_add (suc a) b v =
+    ap (λ (n : ℕ). digits n v) (suc-add a b)
+    ∙ ap (λ (r : List ℕ). v % 256 ∷ r)
+    (digits_add a b (v / 256)
+    ∙ ap (λ (n : ℕ). digits a (v / 256) ++ digits b n) (div-div-eq-div-mul v 256 (256 ^ a) ∙ ap (λ (n : ℕ). v / n) (sym (pow-succ' 256 a))))
 
 -- the bytes above the width do not count
 pub digits_low : (w v : ℕ) → digits w (v % 256 ^ w) ≡ digits w v

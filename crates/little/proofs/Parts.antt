@@ -1,7 +1,7 @@
 -- Parts of a list of bytes and stores into it: what is stored is read, and every disjoint part stays. Assumes nothing.
 use mathlib.Core.Path.{◌≡◌, refl, sym, ap, ◌∙◌}
 use mathlib.Core.List.{List, [], ◌∷◌, ◌++◌, append_assoc}
-use Prim.Native.Nat.{ℕ, zero, suc, ◌+◌, ◌-◌, ◌^◌, ◌≤◌, ◌<◌}
+use Prim.Native.Nat.{ℕ, zero, suc, ◌+◌, ◌-◌, ◌*◌, ◌/◌, ◌%◌, ◌^◌, ◌≤◌, ◌<◌}
 use native.Mathlib.Nat.{add-zero, zero-add, add-suc, suc-add, add-sub_of_le}
 use native.Mathlib.Omega.{arith}
 use lib.ListN.{length, take, drop, get_or, set, replicate, length-drop, length-set, length-replicate, take-append-drop}
@@ -11,7 +11,7 @@ use borrow.Rule.Slice.PartMut.{put_mid}
 use Rattle.std.proofs.lemmas.Slice.{put_mid-paste}
 use Rattle.std.proofs.lemmas.List.Edits.{paste_all}
 use Rattle.little.specs.Little.{little, digits, part}
-use Rattle.little.proofs.Digits.{length_digits, little_digits, little_std}
+use Rattle.little.proofs.Digits.{length_digits, little_digits, little_append, digits_add, digits_low, little_std}
 
 -- ---- parts
 
@@ -52,6 +52,12 @@ part_skip x y n k w e = ap (take w) (ap (λ (m : ℕ). drop (m + k) (x ++ y)) (s
 
 -- ---- a number at a place
 
+pub little_part_add : (at a b : ℕ) (s : List ℕ) → at + a ≤ length s → little (part at (a + b) s) ≡ little (part at a s) + 256 ^ a * little (part (at + a) b s)
+little_part_add at a b s h =
+    ap little (part_add at a b s)
+    ∙ little_append (part at a s) (part (at + a) b s)
+    ∙ ap (λ (n : ℕ). little (part at a s) + 256 ^ n * little (part (at + a) b s)) (length_part at a s h)
+
 pub little_byte : (at : ℕ) (s : List ℕ) → at < length s → little (part at 1 s) ≡ get_or s at 0
 unfolding little
 little_byte at s h = ap little (part_byte at s h) ∙ omega arith
@@ -65,6 +71,13 @@ little_read w at s b v is e some h = is ∙ ap (from_le_bytes w) e ∙ little_st
 pub sets_append : (s : List ℕ) (at : ℕ) (x y : List ℕ) → sets s at (x ++ y) ≡ sets (sets s at x) (at + length x) y
 sets_append s at [] y = ap (λ (n : ℕ). sets s n y) (sym (add-zero at))
 sets_append s at (a ∷ x) y = sets_append (set s at a) (suc at) x y ∙ ap (λ (n : ℕ). sets (sets (set s at a) (suc at) x) n y) (omega arith)
+
+-- a number is stored as its low and its high part
+pub sets_digits_add : (s : List ℕ) (at a b v : ℕ) → sets s at (digits (a + b) v) ≡ sets (sets s at (digits a (v % 256 ^ a))) (at + a) (digits b (v / 256 ^ a))
+sets_digits_add s at a b v =
+    ap (sets s at) (digits_add a b v ∙ ap (λ (r : List ℕ). r ++ digits b (v / 256 ^ a)) (sym (digits_low a v)))
+    ∙ sets_append s at (digits a (v % 256 ^ a)) (digits b (v / 256 ^ a))
+    ∙ ap (λ (n : ℕ). sets (sets s at (digits a (v % 256 ^ a))) (at + n) (digits b (v / 256 ^ a))) (length_digits a (v % 256 ^ a))
 
 -- what was stored is read
 pub part_sets : (s : List ℕ) (at : ℕ) (vs : List ℕ) → at + length vs ≤ length s → part at (length vs) (sets s at vs) ≡ vs

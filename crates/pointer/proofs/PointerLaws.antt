@@ -222,6 +222,10 @@ unfolding lead_of place_led
 place_led_lead_of =
     place_named_leads 80 101 (omega arith) (omega arith) (omega arith) (record { some = omega arith; room = omega arith })
 
+pub pointer_to_some : (e : ℕ) → pointer_to e ≡ 0 → ⊥
+unfolding pointer_to
+pointer_to_some e h = omega arith
+
 pub pointer_to_below : (e : ℕ) → e < 2 ^ 32 → pointer_to e < 256 ^ 8
 unfolding pointer_to
 pointer_to_below e h = omega arith

@@ -37,8 +37,8 @@ fn are_whole(data: &[u8], undo: &[u8], first: usize, n: usize) -> bool
 fn sweep_uncounted(
     data: &mut [u8],
     undo: &mut [u8],
-    data_due: &mut [bool],
-    undo_due: &mut [bool],
+    data_due: &mut [u8],
+    undo_due: &mut [u8],
     sweep: Sweep,
     first: usize,
     n: usize,
@@ -60,8 +60,8 @@ fn sweep_rows(data: &mut [u8], undo: &mut [u8], sweep: Sweep, first: usize, n: u
     ensures counts { result ≡ removed_from sweep.entry.mark sweep.entry.status.bytes.now first n (both «data».old undo.old) }
     ensures leaves { both «data».new undo.new ≡ swept_from sweep.entry.mark sweep.entry.status.bytes.now first n (both «data».old undo.old) }
 {
-    let mut data_due = [false; Kind::DATA.most];
-    let mut undo_due = [false; Kind::UNDO.most];
+    let mut data_due = [0; Kind::DATA.most];
+    let mut undo_due = [0; Kind::UNDO.most];
     let removed = sweep_uncounted(data, undo, &mut data_due, &mut undo_due, sweep, first, n);
     freeing::tally(data, &data_due, Kind::DATA);
     freeing::tally(undo, &undo_due, Kind::UNDO);

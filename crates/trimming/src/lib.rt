@@ -55,7 +55,7 @@ pub fn is_whole(data: &[u8], undo: &[u8], r: usize) -> bool
 }
 
 // Frees the entries of row r from a pointer on, and counts them.
-fn free_rest(undo: &mut [u8], due: &mut [bool], r: usize, first: u64) -> usize
+fn free_rest(undo: &mut [u8], due: &mut [u8], r: usize, first: u64) -> usize
     requires { pages undo.old ≤ length due.old }
     ensures counts { result ≡ length (rest_from r first (tallied undo_kind due.old undo.old)).versions }
     ensures leaves { tallied undo_kind due.new undo.new ≡ swept_rest r first (tallied undo_kind due.old undo.old) }
@@ -86,8 +86,8 @@ fn unlink(m: Slot) -> Slot
 fn cut(
     data: &mut [u8],
     undo: &mut [u8],
-    data_due: &mut [bool],
-    undo_due: &mut [bool],
+    data_due: &mut [u8],
+    undo_due: &mut [u8],
     at: Place,
     m: Slot,
 )
@@ -105,8 +105,8 @@ fn cut(
 fn sweep_behind(
     data: &mut [u8],
     undo: &mut [u8],
-    data_due: &mut [bool],
-    undo_due: &mut [bool],
+    data_due: &mut [u8],
+    undo_due: &mut [u8],
     sweep: Sweep,
     r: usize,
     m: Slot,
@@ -137,8 +137,8 @@ fn sweep_behind(
 pub fn sweep_row(
     data: &mut [u8],
     undo: &mut [u8],
-    data_due: &mut [bool],
-    undo_due: &mut [bool],
+    data_due: &mut [u8],
+    undo_due: &mut [u8],
     sweep: Sweep,
     r: usize,
 ) -> usize

@@ -1,14 +1,30 @@
--- The desk that words say, and columns stored one behind the other. Assumes nothing.
+-- A column copied into words, all turns of the loop done; the desk that words say; and columns stored one behind the other. Assumes
+-- nothing.
 use mathlib.Core.Path.{◌≡◌, refl, sym, ap, ap₂, ◌∙◌}
 use mathlib.Core.List.{List, [], ◌∷◌, ◌++◌, append-nil, append_assoc}
 use Prim.Native.Nat.{ℕ, ◌+◌, ◌≤◌}
 use native.Mathlib.Omega.{arith}
 use lib.ListN.{length, get_or, set, take, drop, length-append, length-drop}
 use lib.ListN.{drop_of_length-le}
-use lib.Seq.{sets, sets-eq, take_at, drop_at, drop-append-add, set_split}
+use lib.Seq.{sets, paste, take_all, sets-eq, take_at, drop_at, drop-append-add, set_split}
 use Rattle.columns.specs.Limits.{sessions, places}
+use Rattle.columns.proofs.Columns.{paste_sets}
 use Rattle.desk.specs.declared.Desk.{Desk}
 use Rattle.words.specs.Words.{numbers_at, statements_at, marks_at, lists_at, all_words, desk_of, desk_in}
+
+-- ---- a column of n places written into words, from `at` on, all turns of the loop done
+
+pub pasted : (n : ℕ) (words : List ℕ) (at : ℕ) (column : List ℕ) (i : ℕ) (l : List ℕ)
+    → length column ≡ n
+    → at + n ≤ length words
+    → i ≤ n
+    → n ≤ i
+    → l ≡ paste words at column i
+    → l ≡ sets words at column
+pasted n words at column i l long fits h past e =
+    e
+    ∙ paste_sets words at column i (omega arith) (omega arith)
+    ∙ ap (λ (s : List ℕ). sets words at s) (take_all i column (omega arith))
 
 -- ---- the desk that words say
 

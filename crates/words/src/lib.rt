@@ -153,13 +153,14 @@ pub fn desk_in(words: &Words) -> Desk
     }
 }
 
-// Stores a part of the desk from `at` on.
+// Stores a part of the desk from `at` on. By `copy_from_slice` the archive would need `memmove` of whoever links it.
 fn put_part(words: &mut Words, at: usize, part: &[u32])
     requires { at + length part.now ≤ all_words }
     ensures { words.new ≡ sets words.old at part.now }
 {
-    let end = at + part.len();
-    words[at..end].copy_from_slice(part);
+    for i in 0..part.len() {
+        words[at + i] = part[i];
+    }
 }
 
 // Writes a desk as words, which say that desk.

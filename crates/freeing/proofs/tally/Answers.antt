@@ -5,7 +5,7 @@ use lib.ListN.{length}
 use Rattle.freeing.specs.Tally.{tallied_to}
 use Rattle.freeing.proofs.Tallies.{tally_counts, tally_passes, tally_ends, length_tallied_to}
 use Rattle.freeing.proofs.tally.Goals as goal
-use Rattle.freeing.proofs.tally.Goals.{then-due-p, else-due-p, At-loop-p}
+use Rattle.freeing.proofs.tally.Goals.{then-due-p-ne0, else-due-p-ne0, At-loop-p}
 
 pub loop-p-init : goal.loop-p-init
 unfolding tallied_to
@@ -22,9 +22,9 @@ recount-requires c =
 
 pub loop-p-preserved : goal.loop-p-preserved
 loop-p-preserved c =
-    elim c.if-due-p.branch [
-      | then-due-p w ↦ tally_counts _ _ _ _ c.loop-p.invariant w.if-due-p.true (w.s-is ∙ w.recount.ensures)
-      | else-due-p w ↦ tally_passes _ _ _ _ c.loop-p.invariant w.if-due-p.false w.s-is
+    elim c.if-due-p-ne0.branch [
+      | then-due-p-ne0 w ↦ tally_counts _ _ _ _ c.loop-p.invariant w.if-due-p-ne0.true (w.s-is ∙ w.recount.ensures)
+      | else-due-p-ne0 w ↦ tally_passes _ _ _ _ c.loop-p.invariant w.if-due-p-ne0.false w.s-is
     ]
 
 pub shape_of-s : goal.shape_of-s
