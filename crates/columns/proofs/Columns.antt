@@ -83,14 +83,16 @@ pulled at w l moved zeros fits moves clears =
 
 -- ---- a copied list
 
--- all of it in one write to a part of d
-pub put_mid_sets : (d : List ℕ) (at k : ℕ) (vs ys : List ℕ)
+-- all of it in one write to the part of d at p
+pub put_mid_sets : (d : List ℕ) (p at k : ℕ) (vs ys : List ℕ)
+    → p ≡ at
     → ys ≡ vs
     → k ≡ length vs
     → at + length vs ≤ length d
-    → put_mid at k d ys ≡ sets d at vs
-put_mid_sets d at k vs ys same long fits =
-    put_mid-paste at k d ys vs k same refl long
+    → put_mid p k d ys ≡ sets d at vs
+put_mid_sets d p at k vs ys here same long fits =
+    ap (λ (n : ℕ). put_mid n k d ys) here
+    ∙ put_mid-paste at k d ys vs k same refl long
     ∙ ap₂ (λ (s : List ℕ) (n : ℕ). take at d ++ s ++ drop (at + n) d) (take_all k vs (omega arith)) long
     ∙ sym (sets-eq vs d at fits)
 

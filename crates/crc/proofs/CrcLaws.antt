@@ -140,10 +140,10 @@ byte_step_by {x} t c b e fits at =
 -- ---- a loop over the bytes of a list
 
 -- the next byte worked
-pub run_next : {r c₀ : ℕ} (c : ℕ) (s : List ℕ) (i : ℕ) → run c (drop i s) ≡ c₀ → i < length s → r ≡ byte_step c (get_or s i 0) → run r (drop (i + 1) s) ≡ c₀
+pub run_next : {r c₀ : ℕ} (c : ℕ) (s : List ℕ) (i k : ℕ) → k ≡ i → run c (drop i s) ≡ c₀ → i < length s → r ≡ byte_step c (get_or s k 0) → run r (drop (i + 1) s) ≡ c₀
 unfolding run
-run_next c s i going h e =
-    ap (λ (x : ℕ). run x (drop (i + 1) s)) e
+run_next c s i k at going h e =
+    ap (λ (x : ℕ). run x (drop (i + 1) s)) (e ∙ ap (λ (n : ℕ). byte_step c (get_or s n 0)) at)
     ∙ sym (ap (run c) (drop-cons s i 0 h ∙ ap (λ (n : ℕ). get_or s i 0 ∷ drop n s) (sym (add-one i))))
     ∙ going
 

@@ -122,11 +122,12 @@ module _ (u s : List ℕ) (v : View) (r first : ℕ) (met : Bool) where
 
       module _ (less : looked ≤ most) {t : Bool} (asked : t ≡ doubt_in v.number s m.copy) {b : Bool} {x : Stamp} (saw : b ≡ there v s x) (stamped : x ≡ stamp_of m.copy) where
         -- at a copy that is there
-        pub stands_found : {a : Result Found Missing} → b ≡ true → a ≡ look_by (noted || t) (At (Undo e) (looked + 1)) → Told a
-        stands_found here is =
+        pub stands_found : {a : Result Found Missing} (n : ℕ) → n ≡ looked + 1 → b ≡ true → a ≡ look_by (noted || t) (At (Undo e) n) → Told a
+        stands_found n told here is =
             let walk : At (Undo e) (looked + 1) ≡ follow_rule u s v r first =
             sym (run_found u r (there_in v s) most looked (link_of u r ptr) e m (sym led ∙ to) less (there_found v s m.copy saw stamped here)) ∙ so.walk in
             is
+            ∙ ap (λ (k : ℕ). look_by (noted || t) (At (Undo e) k)) told
             ∙ ap₂ look_by
             (ap (λ (b : Bool). noted || b) asked
             ∙ noted_found u r test (link_of u r first) met looked so.some (link_of u r ptr) noted so.notes e m (sym led ∙ to)

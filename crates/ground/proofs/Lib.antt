@@ -1,4 +1,5 @@
 pub mod Ranges
 pub mod Runs
+pub mod Strides
 pub mod Once
 pub mod Refusals

@@ -80,20 +80,20 @@ call_nameless s h f = rw (le-ltb longest (length s) h, f)
 
 -- what the fields behind a name say, where n numbers are wanted, and a body where w says so
 module _ (v : Verb) (n : ℕ) (w : Bool) (fs : List (List ℕ)) where
-  pub no_first : (take_number (ltb 0 n) fs).0 ≡ None → asked v n w fs ≡ None
-  no_first e = rw e
+  pub no_first : (t : Bool) → (take_number t fs).0 ≡ None → t ≡ ltb 0 n → asked v n w fs ≡ None
+  no_first t e q = rw (sym q, e)
 
-  module _ (gs : List (List ℕ)) (first : ℕ) (a : take_number (ltb 0 n) fs ≡ (Some first, gs)) where
+  module _ (t : Bool) (gs : List (List ℕ)) (first : ℕ) (a : take_number t fs ≡ (Some first, gs)) (q : t ≡ ltb 0 n) where
     pub no_second : (take_number (ltb 1 n) gs).0 ≡ None → asked v n w fs ≡ None
-    no_second e = rw (a, e)
+    no_second e = rw (sym q, a, e)
 
     module _ (hs : List (List ℕ)) (second : ℕ) (b : take_number (ltb 1 n) gs ≡ (Some second, hs)) where
       pub no_last : (take_body w hs).0 ≡ None → asked v n w fs ≡ None
-      no_last e = rw (a, b, e)
+      no_last e = rw (sym q, a, b, e)
 
       module _ (is : List (List ℕ)) (body : List ℕ) (c : take_body w hs ≡ (Some body, is)) where
         pub all_said : asked v n w fs ≡ settled v (Some first) (Some second) (Some body) is
-        all_said = rw (a, b, c)
+        all_said = rw (sym q, a, b, c)
 
 -- where a field is left, and where none is
 pub some_left : (v : Verb) (a b : ℕ) (c : List ℕ) (r : Option (Bor (List ℕ))) → IsSome r → settled v (Some a) (Some b) (Some c) (left r) ≡ None

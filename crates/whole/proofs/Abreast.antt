@@ -94,13 +94,14 @@ page_at_sealed_on p zero q s h = refl
 page_at_sealed_on p (suc n) q s h =
     page_at_sealed_page_other (p + n) q (sealed_on p n s) (λ e. omega arith) ∙ page_at_sealed_on p n q s (omega arith)
 
--- one more
-pub sealed_on_more : {y : List ℕ} (p n sum : ℕ) (s₀ s : List ℕ)
+-- one more, at the place behind them
+pub sealed_on_more : {y : List ℕ} (p n q sum : ℕ) (s₀ s : List ℕ)
+    → q ≡ p + n
     → s ≡ sealed_on p n s₀
     → sum ≡ checksum_of (page_at (p + n) s₀)
-    → y ≡ put_field checksum (p + n) sum s
+    → y ≡ put_field checksum q sum s
     → y ≡ sealed_on p (n + 1) s₀
-sealed_on_more {y} p n sum s₀ s e h w =
-    sealed_page_put (p + n) s₀ s h (ap (page_at (p + n)) e ∙ page_at_sealed_on p n (p + n) s₀ (omega arith)) w
+sealed_on_more {y} p n q sum s₀ s at e h w =
+    sealed_page_put (p + n) s₀ s h (ap (page_at (p + n)) e ∙ page_at_sealed_on p n (p + n) s₀ (omega arith)) (w ∙ ap (λ (k : ℕ). put_field checksum k sum s) at)
     ∙ ap (sealed_page (p + n)) e
     ∙ ap (λ (m : ℕ). sealed_on p m s₀) (sym (add-one n))

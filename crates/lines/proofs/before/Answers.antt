@@ -1,13 +1,13 @@
 -- `lines::before` meets its contract: where the first b stands is what `position` answers. Assumes nothing.
-use mathlib.Core.Path.{◌≡◌, ap, ◌∙◌}
-use Prim.Native.Nat.{ℕ}
-use lib.ListN.{length}
+use mathlib.Core.Path.{◌≡◌}
+use native.Mathlib.Omega.{arith}
 use lib.Dec.{eqb}
-use Rattle.std.proofs.Common.{Option, rules, tests}
+use Rattle.std.proofs.Common.{rules, tests}
 use Rattle.std.proofs.lemmas.Iterator.{YieldsList-from_slice}
+use Rattle.std.proofs.lemmas.Iterator.Consumers.{YieldsList-at}
 use Rattle.std.proofs.lemmas.Iterator.Search.{position_from_yields_List}
-use Rattle.std.specs.Option.{unwrap_or}
 use Rattle.std.specs.List.{position}
+use Rattle.ground.proofs.Strides.{steps_of, start_of, YieldsList-from_each}
 use Rattle.lines.proofs.Spans.{before_position}
 use Rattle.lines.proofs.before.Goals as goal
 
@@ -15,5 +15,8 @@ pub returns : goal.returns
 returns c =
     let s = c.args.s.now in
     let found : c.position.result ≡ position (λ x. eqb x c.args.b) s =
-    position_from_yields_List (λ x. eqb x c.args.b) _ _ c.position.result c.position.ensures.ran (YieldsList-from_slice s cc) (λ x b q k. search (rules, tests)) in
-    c.unwrap_or.ensures ∙ ap (λ (o : Option ℕ). unwrap_or o (length s)) found ∙ before_position c.args.b s
+    position_from_yields_List {steps = steps_of c.position.ensures.runs.0} {v = λ x. x.now} {s = start_of c.position.ensures.runs.1} {all = s}
+    (λ x. eqb x c.args.b) _ _ c.position.result c.position.ensures.ran
+    (search (rules, YieldsList-from_slice, YieldsList-from_each, YieldsList-at))
+    (λ x b q k. search (rules, tests)) in
+    grind (arith, found, before_position c.args.b s)

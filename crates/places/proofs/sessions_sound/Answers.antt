@@ -41,25 +41,26 @@ sound_at : (numbers statements marks lists : List ℕ) (k : ℕ)
     → length lists ≡ places
     → k < sessions
     → (get_or numbers k 0 ≡ 0 → ⊥)
-    → (r : Bool) (m : ℕ)
+    → (r : Bool) (at m : ℕ)
+    → at ≡ k * members
     → m ≡ members
-    → r ≡ ascending (get_or numbers k 0) (take m (drop (k * members) lists)) 0 (length (take m (drop (k * members) lists)))
+    → r ≡ ascending (get_or numbers k 0) (take m (drop at lists)) 0 (length (take m (drop at lists)))
     → session_sound numbers statements marks lists k ≡ (leb (get_or statements k 0) last_statement && leb (get_or marks k 0) spoiled_mark && r)
-sound_at numbers statements marks lists k l240 h used r m fifteen is =
+sound_at numbers statements marks lists k l240 h used r at m here fifteen is =
     session_open _ _ _ _ _ used
     ∙ ap (λ (b : Bool). leb (get_or statements k 0) last_statement && leb (get_or marks k 0) spoiled_mark && b)
-    (sym (is ∙ part_ascending _ _ _ _ _ fifteen (omega arith)))
+    (sym (is ∙ ap (λ (n : ℕ). ascending (get_or numbers k 0) (take m (drop n lists)) 0 (length (take m (drop n lists)))) here ∙ part_ascending _ _ _ _ _ fifteen (omega arith)))
 
 pub returns-then-not-fits-ascends : goal.returns-then-not-fits-ascends
 returns-then-not-fits-ascends c =
     let l240 : length c.args.desk.lists.now ≡ places = search rules in
     rw c.loop-k.invariant.0
-    (sym (all_fails _ _ c.loop-k.k (omega arith) (sound_at _ _ _ _ _ l240 (omega arith) c.if-number-eq0.false _ _ (omega arith) c.ascends-in-loop-k.ensures ∙ c.if-not-fits-ascends.true)))
+    (sym (all_fails _ _ c.loop-k.k (omega arith) (sound_at _ _ _ _ _ l240 (omega arith) c.if-number-eq0.false _ _ _ (omega arith) (omega arith) c.ascends-in-loop-k.ensures ∙ c.if-not-fits-ascends.true)))
 
 pub loop-k-preserved : goal.loop-k-preserved
 loop-k-preserved c =
     let l240 : length c.args.desk.lists.now ≡ places = search rules in
-    (c.loop-k.invariant.0, all_more _ _ c.loop-k.invariant.1 (sound_at _ _ _ _ _ l240 (omega arith) c.if-number-eq0.false _ _ (omega arith) c.ascends-in-loop-k.ensures ∙ c.if-not-fits-ascends.false))
+    (c.loop-k.invariant.0, all_more _ _ c.loop-k.invariant.1 (sound_at _ _ _ _ _ l240 (omega arith) c.if-number-eq0.false _ _ _ (omega arith) (omega arith) c.ascends-in-loop-k.ensures ∙ c.if-not-fits-ascends.false))
 
 pub returns : goal.returns
 returns c =

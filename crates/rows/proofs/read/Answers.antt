@@ -1,5 +1,6 @@
 -- `rows::read` meets its contract: by what admission says, then by what was sought. Assumes nothing.
 use mathlib.Core.Path.{sym, ap, ◌∙◌}
+use borrow.Author.Rules.{rules}
 use Rattle.answer.proofs.Codes.{handed_on}
 use Rattle.words.specs.Words.{desk_in}
 use Rattle.admit.proofs.Admissions.{Admits, admits, admits_place, admits_status}
@@ -24,4 +25,4 @@ pub invariant_of-seek : goal.invariant_of-seek
 invariant_of-seek c = record { whole = admits_status _ _ _ _ _ _ (admitted (goal.at.invariant_of-seek c).In_ok-k) }
 
 pub returns : goal.returns
-returns c = read_sought _ _ _ _ _ _ _ (admitted (goal.at.returns c).In_ok-k) c.seen_by-view.ensures _ c.seek.ensures
+returns c = read_sought _ _ _ _ _ _ _ (admitted (goal.at.returns c).In_ok-k) c.seen_by-view.ensures _ _ c.seek.ensures (search rules)

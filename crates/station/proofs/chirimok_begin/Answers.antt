@@ -2,6 +2,7 @@
 use Prim.Native.Nat.{ℕ}
 use mathlib.Core.Path.{ap, ◌∙◌}
 use mathlib.Core.List.{List, [], ◌∷◌}
+use native.Mathlib.Omega.{arith}
 use Rattle.kind.specs.Areas.{areas}
 use Rattle.turns.proofs.Promises.{begin_refused}
 use Rattle.ground.specs.Refuse.{kept}
@@ -23,4 +24,4 @@ returns c =
     c.begin-begun.ensures.does
     c.code-code.ensures
     (kept_words _ _ c.begin-begun.ensures.desks.0 c.begin-begun.ensures.desks.1 _ (λ ne. ap (λ (y : ℕ × ℕ × Desk). y.2) c.begin-begun.ensures.does.answers ∙ (begin_refused _ _ (λ e. ne (ap (λ (y : ℕ × ℕ × Desk). y.0) c.begin-begun.ensures.does.answers ∙ e))).0))
-    (ap (λ (n : ℕ). n ∷ []) c.unwrap_or.ensures)
+    (ap (λ (n : ℕ). n ∷ []) (omega (arith, c.unwrap_or.ensures)))

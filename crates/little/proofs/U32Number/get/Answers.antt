@@ -4,4 +4,4 @@ use Rattle.little.proofs.Parts.{little_read}
 use Rattle.little.proofs.U32Number.get.Goals as goal
 
 pub returns : goal.returns
-returns c = little_read w32 _ _ _ _ c.from_le_bytes.ensures c.bytes.ensures (omega arith) c.requires
+returns c = grind (arith, little_read w32 _ _ _ _ c.from_le_bytes.ensures c.bytes.ensures (omega arith) c.requires)
