@@ -8,10 +8,12 @@ use native.Mathlib.Omega.{arith}
 use lib.ListN.{length}
 use Rattle.std.specs.Prelude.{Option, Some, None}
 use Rattle.std.specs.Iterator.{AlwaysYields, YieldsThen}
-use Rattle.std.specs.Iterator.Adapters.{step_by_source, step_by_gap, step_by_first_take, step_by_steps}
+use Rattle.std.specs.Iterator.Adapters.{skip_source, skip_count, skip_steps, step_by_source, step_by_gap, step_by_first_take, step_by_steps}
 use Rattle.std.specs.Iterator.Runs.{Run}
+use Rattle.std.specs.declared.iter.Skip.{Skip}
 use Rattle.std.specs.declared.iter.StepBy.{StepBy}
 use Rattle.std.proofs.lemmas.Iterator.{YieldsList}
+use Rattle.std.proofs.lemmas.Iterator.Adapters.{YieldsList-from_skip}
 
 -- ---- what a call's clause `runs` tells: how the iterator goes on, by its run, and where it stood, by what the run's beginning is
 
@@ -51,3 +53,9 @@ pub YieldsList-from_each : {S A B : Type 0} {steps : S → Option A → S → Ty
 YieldsList-from_each {steps = steps} {v} {u} {s} {t} {ys} is at g road = record {
   runs = each steps v ys u (ap step_by_gap is ∙ omega (arith, g)) (subst (λ r. AlwaysYields steps v r ys) (sym (ap step_by_source is ∙ at)) road.runs);
 }
+
+-- and one that passes over the first n, where n is 0
+pub YieldsList-from_all : {S A B : Type 0} {steps : S → Option A → S → Type 0} {v : A → B} {u s : Skip S} {t : S} {ys : List B}
+    → u ≡ s → skip_source s ≡ t → skip_count s ≡ 0 → YieldsList steps v t ys → YieldsList (skip_steps steps) v u ys
+YieldsList-from_all {steps = steps} {v} {u} {s} {t} {ys} is at none road =
+    YieldsList-from_skip 0 (subst (λ r. YieldsList steps v r ys) (sym (ap skip_source is ∙ at)) road) (ap skip_count is ∙ none)

@@ -12,7 +12,7 @@ use borrow.Author.Tests.{leb-false, le-leb, lt-leb}
 use Rattle.ground.specs.Refuse.{first_of, settle}
 use Rattle.ground.proofs.Refusals.{first_of_more, first_of_past, first_of_none, settle_refused}
 use Rattle.answer.specs.declared.Refusal.{Refusal}
-use Rattle.answer.specs.declared.Refusal.TheVariants.{BadArgument}
+use Rattle.answer.specs.declared.Refusal.TheVariants.{BadArgument, NotThere}
 use Rattle.answer.specs.Code.{code_of}
 use Rattle.kind.specs.Kind.{rows}
 use Rattle.desk.specs.View.{View}
@@ -30,6 +30,7 @@ use Rattle.chain.specs.Walk.{stamp_of, walk_rule}
 use Rattle.chain.proofs.Walks.{walk_empty, front_walk}
 use Rattle.chain.specs.declared.Found.{Found}
 use Rattle.doubt.specs.declared.Missing.{Missing}
+use Rattle.doubt.specs.declared.Missing.TheVariants.{Absent as Away}
 use Rattle.doubt.specs.Doubt.{doubt_in, doubts, look_by, look_rule, refusal_of}
 use Rattle.doubt.proofs.Doubts.{doubts_slot, front_doubts}
 use Rattle.seeking.specs.Seeking.{no_row, is_broken, breaks, is_absent, misses, says, sought_by, seek_rule, write_refusal}
@@ -233,6 +234,10 @@ module _ (d u s : List ℕ) (v : View) (r : ℕ) where
 
     pub seek_none : {m : Missing} {n : Refusal} → w ≡ Err m → n ≡ refusal_of m → Err n ≡ seek_rule d u s v r
     seek_none e is = ap Err is ∙ ap sought_by (sym e) ∙ seek_by_lem
+
+    -- of them the absence, which is told as 7
+    pub seek_absent : {m : Missing} → w ≡ Err m → m ≡ Away → Err NotThere ≡ seek_rule d u s v r
+    seek_absent {m} e here = seek_none e (ap refusal_of (sym here))
 
   -- a write of a row that the seek refuses
   pub write_unsought : {q : Result Found Refusal} {n : Refusal} → q ≡ seek_rule d u s v r → q ≡ Err n → code_of n ≡ write_refusal d u s v r
