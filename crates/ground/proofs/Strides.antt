@@ -1,5 +1,6 @@
--- What an iterator gives that takes each n-th item of another, where n is 1: all that the other gives. For the proofs of loops over bytes, so that
--- a step of 2 is refused because it passes bytes over, and not because no law tells what an iterator by steps gives. Assumes nothing.
+-- What an iterator gives that takes each n-th item of another, where n is 1, or passes over its first n, where n is 0: all that the other gives.
+-- For the proofs of loops and searches, so that a step of 2, or an item passed over, is refused for what it leaves out, and not because no law
+-- tells what such an iterator gives. Assumes nothing.
 use mathlib.Core.Path.{◌≡◌, sym, ap, subst, ◌∙◌}
 use mathlib.Core.Bool.{Bool, true, false, cond}
 use mathlib.Core.List.{List, [], ◌∷◌}

@@ -83,6 +83,10 @@ low_first (suc k) i v = ap₂ ◌∷◌ (byte i) (low_first k (suc i) v ∙ ap (
 pub digits_std : (w : Width) (v : ℕ) → to_le_bytes w v ≡ digits (byte_len w) v
 digits_std w v = low_first (byte_len w) 0 v ∙ ap (digits (byte_len w)) (omega (arith, pow-zero 256))
 
+-- the same of a number that is equal, by the bytes that the code wrote of it
+pub digits_written : (w : Width) (v : ℕ) {x : ℕ} {bytes : List ℕ} → bytes ≡ to_le_bytes w x → x ≡ v → bytes ≡ digits (byte_len w) v
+digits_written w v {x} is same = is ∙ digits_std w x ∙ ap (digits (byte_len w)) same
+
 through : (k : ℕ) (l : List ℕ) → k < length l → sum_through (λ i. byte_worth i (slice_index l i)) k ≡ little (take (suc k) l)
 unfolding little
 through zero [] h = absurd (omega arith)

@@ -292,6 +292,7 @@ module _ (d u s : List ℕ) (desk : Desk) (x r : ℕ) where
     unfolding read_rule read_refusal
     read_on = goes_on d u s desk x k a read_rest read_done read_no
 
+    -- what the seek's rule finds is what is read
     read_by : (q : Result Found Refusal) → q ≡ seek_rule d u s v r → said_seen q ≡ read_rule (areas d u s) desk x r
     read_by (Err n) e = sym (read_on ∙ seek_refused d u s (view_in desk x) r n [] read_done read_no (sought_in d u s desk x k a lent r (Err n) e))
     read_by (Ok f) e =
@@ -301,6 +302,6 @@ module _ (d u s : List ℕ) (desk : Desk) (x r : ℕ) where
         ∙ ap (λ (m : ℕ). settle m read_done read_no) (seek_passed d u s (view_in desk x) r f found [])
         ∙ ap seen_by (seek_walk d u s (view_in desk x) r f found))
 
-    -- what was sought is what is read
+    -- and so is what was sought
     pub read_sought : (p q : Result Found Refusal) → p ≡ seek_rule d u s v r → q ≡ p → said_seen q ≡ read_rule (areas d u s) desk x r
     read_sought p q sought is = ap said_seen is ∙ read_by p sought

@@ -235,7 +235,7 @@ module _ (d u s : List ℕ) (v : View) (r : ℕ) where
     pub seek_none : {m : Missing} {n : Refusal} → w ≡ Err m → n ≡ refusal_of m → Err n ≡ seek_rule d u s v r
     seek_none e is = ap Err is ∙ ap sought_by (sym e) ∙ seek_by_lem
 
-    -- of them the absence, which is told as 7
+    -- of them the absence, which is told as 7: for the two edits that tell it otherwise
     pub seek_absent : {m : Missing} → w ≡ Err m → m ≡ Away → Err NotThere ≡ seek_rule d u s v r
     seek_absent {m} e here = seek_none e (ap refusal_of (sym here))
 

@@ -2,9 +2,8 @@ use mathlib.Core.Path.{ap, ◌∙◌}
 use native.Mathlib.Omega.{arith}
 use Rattle.std.specs.Int.{w16}
 use lib.Seq.{sets}
-use Rattle.little.specs.Little.{digits}
-use Rattle.little.proofs.Digits.{digits_std}
+use Rattle.little.proofs.Digits.{digits_written}
 use Rattle.little.proofs.U16Number.put.Goals as goal
 
 pub returns : goal.returns
-returns c = c.put_bytes.ensures ∙ ap (sets c.args.s.now c.args.at) (c.to_le_bytes.ensures ∙ digits_std w16 _ ∙ ap (digits 2) (omega arith))
+returns c = c.put_bytes.ensures ∙ ap (sets c.args.s.now c.args.at) (digits_written w16 _ c.to_le_bytes.ensures (omega arith))

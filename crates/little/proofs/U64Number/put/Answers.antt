@@ -2,9 +2,8 @@ use mathlib.Core.Path.{ap, ◌∙◌}
 use native.Mathlib.Omega.{arith}
 use Rattle.std.specs.Int.{w64}
 use lib.Seq.{sets}
-use Rattle.little.specs.Little.{digits}
-use Rattle.little.proofs.Digits.{digits_std}
+use Rattle.little.proofs.Digits.{digits_written}
 use Rattle.little.proofs.U64Number.put.Goals as goal
 
 pub returns : goal.returns
-returns c = c.put_bytes.ensures ∙ ap (sets c.args.s.now c.args.at) (c.to_le_bytes.ensures ∙ digits_std w64 _ ∙ ap (digits 8) (omega arith))
+returns c = c.put_bytes.ensures ∙ ap (sets c.args.s.now c.args.at) (digits_written w64 _ c.to_le_bytes.ensures (omega arith))
